@@ -1,0 +1,2 @@
+pub mod Byteform
+pub mod Telling

@@ -1,0 +1,10 @@
+pub mod Bitlists
+pub mod Order
+pub mod Mix
+pub mod Shared
+pub mod Raised
+pub mod Cornering
+pub mod Weaving
+pub mod Corners
+pub mod Halving
+pub mod Inverse

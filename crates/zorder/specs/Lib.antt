@@ -1,0 +1,4 @@
+pub mod Code
+pub mod Sharing
+pub mod Halves
+pub mod Laws
