@@ -1,4 +1,4 @@
--- The laws of codes, of corners and of halves, each for every list of axes.
+-- The laws of codes, of corners and of halves, each for every list of axes, or for every one of at most 32 bits an axis (Narrow).
 use mathlib.Core.Path.{_≡_}
 use mathlib.Core.List.{List, [], _∷_, _++_, map}
 use Prim.Native.Nat.{ℕ, _^_, _≤_, _<_}

@@ -5,7 +5,7 @@ ghost use Rattle.zorder.specs.Laws.{Halves-law, Join-law, Apart-law};
 
 pub mod weave;
 
-// The laws of codes, for every list of axes.
+// The laws of codes, for every list of axes of at most 32 bits each.
 pub fn codes_stand()
     ensures taken { λ _. ⌜ Taken-law ⌝ }
     ensures below { λ _. ⌜ Below-law ⌝ }
@@ -15,7 +15,7 @@ pub fn codes_stand()
     ensures zeros { λ _. ⌜ Zeros-law ⌝ }
 {}
 
-// The laws of corners, for every list of axes.
+// The laws of corners, for every list of axes of at most 32 bits each.
 pub fn corners_stand()
     ensures window { λ _. ⌜ Window-law ⌝ }
     ensures bounds { λ _. ⌜ Bounds-law ⌝ }
@@ -24,7 +24,7 @@ pub fn corners_stand()
     ensures parts { λ _. ⌜ Parts-law ⌝ }
 {}
 
-// The laws of halves, for every list of axes.
+// The laws of halves, for every list of axes of at most 32 bits each.
 pub fn halves_stand()
     ensures halves { λ _. ⌜ Halves-law ⌝ }
     ensures join { λ _. ⌜ Join-law ⌝ }

@@ -1,0 +1,10 @@
+pub mod Views
+pub mod Parts
+pub mod Runs
+pub mod Pairs
+pub mod Ends
+pub mod Faults
+pub mod Forms
+pub mod Scans
+pub mod Finds
+pub mod Writing
