@@ -1,0 +1,3 @@
+pub mod Placing
+pub mod Motifs
+pub mod Laws
