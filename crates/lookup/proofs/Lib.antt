@@ -1,0 +1,3 @@
+pub mod Walks
+pub mod Heads
+pub mod Tallies
