@@ -1,4 +1,6 @@
 // Whole pages of a card: loading and writing them.
+#![tactic(auto)]
+
 ghost use Rattle.std.specs.Prelude.{◌≡◌, ℕ, ◌<◌, length, MatchResult, slice_set};
 ghost use Rattle.refusal.specs.Numbers.{number};
 ghost use Rattle.tree.specs.Lawful.{page as page_of};

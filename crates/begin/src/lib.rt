@@ -1,4 +1,6 @@
 // Begin: an empty draft on a card.
+#![tactic(auto)]
+
 ghost use Rattle.std.specs.Prelude.{◌≡◌, ℕ, ◌+◌, ◌<◌, ◌≤◌, length, if◌then◌else◌, nat_lt};
 ghost use Rattle.begin.specs.Begins.{Begins};
 

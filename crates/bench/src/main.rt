@@ -1,4 +1,6 @@
 // Runs calls on many pseudo-random points. Without an argument it prints a checksum of their answers; with the argument `time`, how many nanoseconds a call takes.
+#![tactic(auto)]
+
 ghost use Rattle.kinds.specs.Kind.{On};
 
 use kinds::bar::BarPoint;

@@ -1,4 +1,6 @@
 //! Makes a card of each page store, works on its pages in the same steps, and shows what its memory then holds.
+#![tactic(auto)]
+
 use std::io;
 use store::{PageStore, RowStore, StoreFault, TwinBoards, Watched, clear_page, copy_page};
 

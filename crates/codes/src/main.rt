@@ -1,4 +1,6 @@
 // Shows how points are coded: reads one point a line from standard input, two numbers for a lay point (course and shog) or three for a bar point (course, bar and shog), and prints the steps taken.
+#![tactic(auto)]
+
 ghost use Rattle.kinds.specs.Bar.{bar_kind};
 ghost use Rattle.kinds.specs.Kind.{On};
 ghost use Rattle.kinds.specs.Lay.{lay_kind};

@@ -1,4 +1,6 @@
 // A draft: its card, in some page store, and an origin.
+#![tactic(auto)]
+
 ghost use Rattle.std.specs.Prelude.{◌≡◌, ℕ, ◌<◌, ◌⊎◌, List, length, pos, IfOk, Ok, MatchResult};
 ghost use Rattle.std.specs.Borrow.{follows, sem};
 ghost use Rattle.refusal.specs.Numbers.{number, numbered};

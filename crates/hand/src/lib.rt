@@ -1,3 +1,5 @@
 // Points in the hand: the points of a data page, and what is done with them.
+#![tactic(auto)]
+
 mod places;
 pub mod points;

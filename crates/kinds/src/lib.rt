@@ -1,4 +1,6 @@
 // Point kinds: what a kind must show, and the kinds there are.
+#![tactic(auto)]
+
 ghost use Rattle.kinds.specs.Bar.{bar_kind};
 ghost use Rattle.kinds.specs.Edges.{Edges};
 ghost use Rattle.kinds.specs.Lay.{lay_kind};

@@ -1,4 +1,6 @@
 // Tests of the point kinds. The tables hold codes reckoned by another way: each raised value written out as a string of binary digits, from which the digits are taken in turns.
+#![tactic(auto)]
+
 #[cfg(test)]
 mod tests {
     use kinds::bar::BarPoint;

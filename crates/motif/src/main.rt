@@ -1,4 +1,6 @@
 // Places a motif: reads an origin (course and shog) from the first line of standard input, a temporary origin from the second and the motif from the others, a lay point a line, and prints the steps taken.
+#![tactic(auto)]
+
 ghost use Rattle.std.specs.Prelude.{◌≡◌, MatchResult};
 ghost use Rattle.refusal.specs.Numbers.{number as numbered};
 ghost use Rattle.motif.specs.Pairs.{OnBoth, Same};

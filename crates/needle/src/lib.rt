@@ -1,4 +1,6 @@
 // Shogs in half needles, and whole needles with the half left over.
+#![tactic(auto)]
+
 ghost use Rattle.std.specs.Prelude.{◌≡◌, ℤ};
 ghost use Rattle.needle.specs.Shogs.{SplitSays, JoinSays, BackLaw, AgainLaw, GreatestLaw};
 

@@ -1,4 +1,6 @@
 // Turns shogs into whole needles: reads one shog a line from standard input, and prints the step taken for each.
+#![tactic(auto)]
+
 use needle::{join, split};
 use refusal::Refusal;
 use std::io;

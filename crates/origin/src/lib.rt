@@ -1,4 +1,6 @@
 // Origins: placing motifs, and temporary origins that always come back.
+#![tactic(auto)]
+
 ghost use Rattle.origin.specs.Laws.{StartLaw, ApartLaw, OneLaw};
 ghost use Rattle.origin.specs.Placing.{PlaceSays};
 

@@ -1,5 +1,7 @@
 // Outline of a draft of lay points. Reads points in byte form from standard input, the first 16,000 bytes at most, puts them on a card of 500 pages, passes over refused ones and a broken last one,
 // and writes the outline's bytes as they are. With the argument `hex` it writes them as hexadecimal capitals, with `tree` a picture of the tree, a line a page.
+#![tactic(auto)]
+
 use draft::calls::{Call, Reply};
 use draft::run::run;
 use kinds::kind::PointKind;

@@ -1,4 +1,6 @@
 // Outline: a record for each page of a draft's tree.
+#![tactic(auto)]
+
 ghost use Rattle.std.specs.Prelude.{◌≡◌, ℕ, ◌+◌, ◌≤◌, List, length, drop, Ok, MatchResult};
 ghost use Rattle.refusal.specs.Numbers.{number, numbered};
 ghost use Rattle.kinds.specs.Kind.{On, wide};

@@ -1,4 +1,6 @@
 // The pages of a card: views over their 64 bytes, checks, and encoders.
+#![tactic(auto)]
+
 pub mod data_page;
 pub mod directory_page;
 pub mod encode;

@@ -1,4 +1,6 @@
 // Every change of one byte of every sample page is read again. It is refused, or it is another page, which is written as exactly the changed bytes.
+#![tactic(auto)]
+
 use kinds::bar::BarPoint;
 use kinds::kind::PointKind;
 use kinds::lay::LayPoint;

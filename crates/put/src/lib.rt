@@ -1,4 +1,6 @@
 // Put: a point into a draft.
+#![tactic(auto)]
+
 ghost use Rattle.std.specs.Prelude.{◌≡◌, ◌<◌, List, length, Some, None};
 ghost use Rattle.kinds.specs.Kind.{On};
 ghost use Rattle.page.specs.Checks.{summary};

@@ -1,4 +1,6 @@
 // Why a call on a draft is refused. Each refusal has a number by which the outside world knows it.
+#![tactic(auto)]
+
 ghost use Rattle.std.specs.Prelude.{◌≡◌};
 ghost use Rattle.refusal.specs.Numbers.{number, NumbersLaw};
 

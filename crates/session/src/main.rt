@@ -1,4 +1,6 @@
 // A session at a draft: reads one command a line from standard input and prints each step as it is taken, the command behind `> ` and then its reply.
+#![tactic(auto)]
+
 use draft::Draft;
 use draft::calls::{Call, Reply};
 use kinds::bar::BarPoint;

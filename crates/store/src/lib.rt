@@ -1,5 +1,7 @@
 //! A page store is a row of pages of 64 bytes, read and written by number. What lies below it is known to nobody above it:
 //! the meaning of a store is the list of its pages, and a caller is proved against that list alone.
+#![tactic(auto)]
+
 pub mod copy;
 pub mod fault;
 pub mod lent;

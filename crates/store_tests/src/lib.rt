@@ -1,4 +1,6 @@
 //! Tests of the page stores. The bytes expected follow from the rule of each test and are never taken from a store.
+#![tactic(auto)]
+
 ghost use Rattle.store.specs.Calls.{Written};
 
 use store::{Lent, PageStore, StoreFault};

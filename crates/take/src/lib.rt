@@ -1,4 +1,6 @@
 // Take: a point out of a draft.
+#![tactic(auto)]
+
 ghost use Rattle.std.specs.Prelude.{List};
 ghost use Rattle.tree.specs.Lawful.{Lawful};
 ghost use Rattle.take.specs.Taking.{TakeStep, TakeAny};

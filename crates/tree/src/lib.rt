@@ -1,4 +1,6 @@
 // What a draft's tree is, and what a lawful card is: definitions and laws.
+#![tactic(auto)]
+
 ghost use Rattle.tree.specs.Example.{Example};
 ghost use Rattle.tree.specs.Laws.{OneTreeLaw, PointsLaw, PageLaw, CountLaw, DepthLaw, SetLaw, WayLaw, ShortWayLaw, OneSetLaw, WholeCardLaw};
 

@@ -1,4 +1,6 @@
 // The code that orders points, as numbers and lists of coordinates: interleaved bits, shared first bits, corners and halves.
+#![tactic(auto)]
+
 ghost use Rattle.zorder.specs.Laws.{TakenLaw, BelowLaw, EveryCodeLaw, OnePointLaw, OrderLaw, ZerosLaw};
 ghost use Rattle.zorder.specs.Laws.{WindowLaw, BoundsLaw, DepthLaw, CornerLaw, PartsLaw};
 ghost use Rattle.zorder.specs.Laws.{HalvesLaw, JoinLaw, ApartLaw};

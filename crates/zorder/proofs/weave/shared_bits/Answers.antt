@@ -13,6 +13,6 @@ returns c =
     let w = c.args.width in
     let a = c.args.a in
     let b = c.args.b in
-    let wide = zeros_wide 64 w (bit_xor a b) (omega arith) (xor_lt w a b c.requires.a-fits c.requires.b-fits) in
+    let wide = zeros_wide 64 w (bit_xor a b) (omega arith) (xor_lt w a b c.requires.a_fits c.requires.b_fits) in
     let e : count_leading_zeros 64 (bit_xor a b) - (64 - w) ≡ count_leading_zeros w (bit_xor a b) = omega (arith, wide) in
-    record { shares = subst (λ n. Shares w n a b) (sym e) (shares_zeros w a b c.requires.a-fits c.requires.b-fits); zeros = e }
+    record { shares = subst (λ n. Shares w n a b) (sym e) (shares_zeros w a b c.requires.a_fits c.requires.b_fits); zeros = e }
