@@ -12,9 +12,9 @@ loop-page-preserved g c =
     let xs = g.S.PageStore.pages c.loop-page.store in
     let p = c.loop-page.page in
     let inv = c.loop-page.invariant in
-    let b = c.free-page.result in
-    let bytes : b ≡ free_bytes k c.count-count.result p = c.free-page.ensures ∙ ap (λ x. encode k (free_view x)) c.next-page.ensures in
-    let e = c.put-page.ensures in
+    let b = c.free_page.result in
+    let bytes : b ≡ free_bytes k c.count-count.result p = c.free_page.ensures ∙ ap (λ x. encode k (free_view x)) c.next_page.ensures in
+    let e = c.put_page.ensures in
     let there : p < length xs = omega (arith, inv.0, c.loop-page-test.true) in (
       ap length e ∙ length-set xs p b ∙ inv.0,
       λ q h lt. ap (λ card. page card q) e ∙ ⊎_elim
@@ -31,8 +31,8 @@ returns g c =
     let e : n ≡ length (g.S.PageStore.pages c.args.store.now) = c.count-count.ensures.gives in
     let two : 2 ≤ n = omega (arith, c.if-count-lt2.false) in
     let most : n ≤ 65535 = omega (arith, c.if-count-gt65535.false) in
-    let is : g.S.PageStore.pages c.put-page-2.new.store ≡ begun_card k n =
-    c.put-page-2.ensures ∙ made k n (g.S.PageStore.pages c.loop-page.store) _ (omega arith) inv.0 (λ q h lt. inv.1 q h (omega (arith, c.loop-page-test.false))) c.head-page.ensures in (
+    let is : g.S.PageStore.pages c.put_page-2.new.store ≡ begun_card k n =
+    c.put_page-2.ensures ∙ made k n (g.S.PageStore.pages c.loop-page.store) _ (omega arith) inv.0 (λ q h lt. inv.1 q h (omega (arith, c.loop-page-test.false))) c.head_page.ensures in (
       omega (arith, e, two),
       omega (arith, e, most),
       is ∙ ap (begun_card k) e,

@@ -11,28 +11,28 @@ use Rattle.outlines.proofs.Roots.{free_fits, none_has, empty_outline, root_end, 
 use Rattle.outlines.proofs.outline.Goals as goal
 
 -- the head of a lawful card is read
-pub returns-in-default-read-head : goal.returns-in-default-read-head
-returns-in-default-read-head g c =
+pub returns-in_default-read_head : goal.returns-in_default-read_head
+returns-in_default-read_head g c =
     let k = g.K.PointKind.kind in
     record {
-      lawful = λ set w. absurd (never_headless k g.met.K.PointKind.sound _ set w {X = Head g.row.K.Denot} c.in-Ok.bytes (λ x. HeadRead k c.in-Ok.bytes (Some x)) c.in-default-read-head.field-0 c.in-Ok.ensures.gives.1 c.in-default-read-head.ensures);
+      lawful = λ set w. absurd (never_headless k g.met.K.PointKind.sound _ set w {X = Head g.row.K.Denot} c.in-Ok.bytes (λ x. HeadRead k c.in-Ok.bytes (Some x)) c.in_default-read_head.field-0 c.in-Ok.ensures.gives.1 c.in_default-read_head.ensures);
       always = inl refl;
       keeps = c.load.ensures.keeps;
     }
 
 -- the numbers of a lawful card add up
-pub returns-in-default-tree-pages : goal.returns-in-default-tree-pages
-returns-in-default-tree-pages g c =
+pub returns-in_default-tree_pages : goal.returns-in_default-tree_pages
+returns-in_default-tree_pages g c =
     let k = g.K.PointKind.kind in
     let s = g.met.K.PointKind.sound in
     let card = g.S.PageStore.pages c.args.store.now in
     let n = c.count-count.ensures.gives ∙ ap length c.load.ensures.keeps in
     record {
       lawful = λ set w.
-          let h = head_is k s card set w c.in-Ok.bytes _ _ _ c.in-Ok.ensures.gives.1 c.in-Ok-read-head.ensures.1 in
+          let h = head_is k s card set w c.in-Ok.bytes _ _ _ c.in-Ok.ensures.gives.1 c.in-Ok-read_head.ensures.1 in
           let a = free_fits k s card set w _ h.1 in
           let b = w.size.1 in
-          absurd (⊎_elim (λ le. omega arith) (λ lt. omega arith) c.in-default-tree-pages.ensures);
+          absurd (⊎_elim (λ le. omega arith) (λ lt. omega arith) c.in_default-tree_pages.ensures);
       always = inl refl;
       keeps = c.load.ensures.keeps;
     }
@@ -46,9 +46,9 @@ returns-then-end-eq0 g c =
     let n = c.count-count.ensures.gives ∙ ap length c.load.ensures.keeps in
     record {
       lawful = λ set w.
-          let h = head_is k s card set w c.in-Ok.bytes _ _ _ c.in-Ok.ensures.gives.1 c.in-Ok-read-head.ensures.1 in
-          let p : length card ≡ suc (c.in-Some.pages + c.in-Ok-read-head.head.free) = sym n ∙ c.in-Some.ensures.0 in
-          empty_outline k s card set w c.in-Some.pages _ h.1 p c.args.buffer.now (no_root k s card set w (h.2 ∙ ap (root_summary k) c.in-default-root.is)).1;
+          let h = head_is k s card set w c.in-Ok.bytes _ _ _ c.in-Ok.ensures.gives.1 c.in-Ok-read_head.ensures.1 in
+          let p : length card ≡ suc (c.in-Some.pages + c.in-Ok-read_head.head.free) = sym n ∙ c.in-Some.ensures.0 in
+          empty_outline k s card set w c.in-Some.pages _ h.1 p c.args.buffer.now (no_root k s card set w (h.2 ∙ ap (root_summary k) c.in_default-root.is)).1;
       always = (omega arith, refl);
       keeps = c.load.ensures.keeps;
     }
@@ -62,10 +62,10 @@ returns-else-end-eq0 g c =
     let n = c.count-count.ensures.gives ∙ ap length c.load.ensures.keeps in
     record {
       lawful = λ set w.
-          let h = head_is k s card set w c.in-Ok.bytes _ _ _ c.in-Ok.ensures.gives.1 c.in-Ok-read-head.ensures.1 in
-          let p : length card ≡ suc (c.in-Some.pages + c.in-Ok-read-head.head.free) = sym n ∙ c.in-Some.ensures.0 in
-          let z = none_has k s card set w c.in-Some.pages _ h.1 p (no_root k s card set w (h.2 ∙ ap (root_summary k) c.in-default-root.is)).0 in
-          absurd (c.if-end-eq0.false (ap (λ i. i * c.record-size.result) z ∙ zero-mul c.record-size.result));
+          let h = head_is k s card set w c.in-Ok.bytes _ _ _ c.in-Ok.ensures.gives.1 c.in-Ok-read_head.ensures.1 in
+          let p : length card ≡ suc (c.in-Some.pages + c.in-Ok-read_head.head.free) = sym n ∙ c.in-Some.ensures.0 in
+          let z = none_has k s card set w c.in-Some.pages _ h.1 p (no_root k s card set w (h.2 ∙ ap (root_summary k) c.in_default-root.is)).0 in
+          absurd (c.if-end-eq0.false (ap (λ i. i * c.record_size.result) z ∙ zero-mul c.record_size.result));
       always = inl refl;
       keeps = c.load.ensures.keeps;
     }
@@ -79,31 +79,31 @@ returns-then-end-buffer g c =
     let n = c.count-count.ensures.gives ∙ ap length c.load.ensures.keeps in
     record {
       lawful = λ set w.
-          let h = head_is k s card set w c.in-Ok.bytes _ _ _ c.in-Ok.ensures.gives.1 c.in-Ok-read-head.ensures.1 in
+          let h = head_is k s card set w c.in-Ok.bytes _ _ _ c.in-Ok.ensures.gives.1 c.in-Ok-read_head.ensures.1 in
           let r = rooted k s card set w (summary k c.in-Some-root.root) (h.2 ∙ ap (root_summary k) c.in-Some-root.is) in
-          let p : length card ≡ suc (c.in-Some.pages + c.in-Ok-read-head.head.free) = sym n ∙ c.in-Some.ensures.0 in
-          short_outline k s card set w c.in-Some.pages _ h.1 p r.tree r.is_root r.stands c.args.buffer.now (subst (λ z. length c.args.buffer.now < c.in-Some.pages * z) c.record-size.ensures c.if-end-buffer.true);
+          let p : length card ≡ suc (c.in-Some.pages + c.in-Ok-read_head.head.free) = sym n ∙ c.in-Some.ensures.0 in
+          short_outline k s card set w c.in-Some.pages _ h.1 p r.tree r.is_root r.stands c.args.buffer.now (subst (λ z. length c.args.buffer.now < c.in-Some.pages * z) c.record_size.ensures c.if-end-buffer.true);
       always = inr (refl, refl);
       keeps = c.load.ensures.keeps;
     }
 
 -- the walk is not refused
-pub returns-in-default-outline-below : goal.returns-in-default-outline-below
-returns-in-default-outline-below g c =
+pub returns-in_default-outline_below : goal.returns-in_default-outline_below
+returns-in_default-outline_below g c =
     let k = g.K.PointKind.kind in
     let s = g.met.K.PointKind.sound in
     let card = g.S.PageStore.pages c.args.store.now in
     let n = c.count-count.ensures.gives ∙ ap length c.load.ensures.keeps in
     record {
       lawful = λ set w.
-          let h = head_is k s card set w c.in-Ok.bytes _ _ _ c.in-Ok.ensures.gives.1 c.in-Ok-read-head.ensures.1 in
+          let h = head_is k s card set w c.in-Ok.bytes _ _ _ c.in-Ok.ensures.gives.1 c.in-Ok-read_head.ensures.1 in
           let r = rooted k s card set w (summary k c.in-Some-root.root) (h.2 ∙ ap (root_summary k) c.in-Some-root.is) in
-          let p : length card ≡ suc (c.in-Some.pages + c.in-Ok-read-head.head.free) = sym n ∙ c.in-Some.ensures.0 in
+          let p : length card ≡ suc (c.in-Some.pages + c.in-Ok-read_head.head.free) = sym n ∙ c.in-Some.ensures.0 in
           let e = root_end k s card set w c.in-Some.pages _ h.1 p r.tree r.is_root r.stands in
-          let f : c.in-Some.pages * c.record-size.result ≡ length (outline k (shape r.tree)) = ap (λ z. c.in-Some.pages * z) c.record-size.ensures ∙ e in
-          never_err (c.in-default-outline-below.ensures.lawful set r.tree (reached_on k c.load.ensures.keeps (root_reached k s card set _ r.tree r.stands (ap (summary k) c.in-Some-root.root_is ∙ sym r.entry_is))) (omega arith) (omega arith)).0;
+          let f : c.in-Some.pages * c.record_size.result ≡ length (outline k (shape r.tree)) = ap (λ z. c.in-Some.pages * z) c.record_size.ensures ∙ e in
+          never_err (c.in_default-outline_below.ensures.lawful set r.tree (reached_on k c.load.ensures.keeps (root_reached k s card set _ r.tree r.stands (ap (summary k) c.in-Some-root.root_is ∙ sym r.entry_is))) (omega arith) (omega arith)).0;
       always = inl refl;
-      keeps = c.outline-below.ensures.keeps ∙ c.load.ensures.keeps;
+      keeps = c.outline_below.ensures.keeps ∙ c.load.ensures.keeps;
     }
 
 -- the whole outline
@@ -115,15 +115,15 @@ returns-then-next-end g c =
     let n = c.count-count.ensures.gives ∙ ap length c.load.ensures.keeps in
     record {
       lawful = λ set w.
-          let h = head_is k s card set w c.in-Ok.bytes _ _ _ c.in-Ok.ensures.gives.1 c.in-Ok-read-head.ensures.1 in
+          let h = head_is k s card set w c.in-Ok.bytes _ _ _ c.in-Ok.ensures.gives.1 c.in-Ok-read_head.ensures.1 in
           let r = rooted k s card set w (summary k c.in-Some-root.root) (h.2 ∙ ap (root_summary k) c.in-Some-root.is) in
-          let p : length card ≡ suc (c.in-Some.pages + c.in-Ok-read-head.head.free) = sym n ∙ c.in-Some.ensures.0 in
+          let p : length card ≡ suc (c.in-Some.pages + c.in-Ok-read_head.head.free) = sym n ∙ c.in-Some.ensures.0 in
           let e = root_end k s card set w c.in-Some.pages _ h.1 p r.tree r.is_root r.stands in
-          let f : c.in-Some.pages * c.record-size.result ≡ length (outline k (shape r.tree)) = ap (λ z. c.in-Some.pages * z) c.record-size.ensures ∙ e in
-          let v = c.in-Ok-outline-below.ensures.lawful set r.tree (reached_on k c.load.ensures.keeps (root_reached k s card set _ r.tree r.stands (ap (summary k) c.in-Some-root.root_is ∙ sym r.entry_is))) (omega arith) (omega arith) in
-          whole_outline k s card set w c.in-Some.pages _ h.1 p r.tree r.is_root r.stands c.args.buffer.now _ _ (ap (λ z. c.in-Some.pages * z) c.record-size.ensures) v.1;
-      always = (c.if-end-buffer.false, c.in-Ok-outline-below.ensures.always.1);
-      keeps = c.outline-below.ensures.keeps ∙ c.load.ensures.keeps;
+          let f : c.in-Some.pages * c.record_size.result ≡ length (outline k (shape r.tree)) = ap (λ z. c.in-Some.pages * z) c.record_size.ensures ∙ e in
+          let v = c.in-Ok-outline_below.ensures.lawful set r.tree (reached_on k c.load.ensures.keeps (root_reached k s card set _ r.tree r.stands (ap (summary k) c.in-Some-root.root_is ∙ sym r.entry_is))) (omega arith) (omega arith) in
+          whole_outline k s card set w c.in-Some.pages _ h.1 p r.tree r.is_root r.stands c.args.buffer.now _ _ (ap (λ z. c.in-Some.pages * z) c.record_size.ensures) v.1;
+      always = (c.if-end-buffer.false, c.in-Ok-outline_below.ensures.always.1);
+      keeps = c.outline_below.ensures.keeps ∙ c.load.ensures.keeps;
     }
 
 -- as many records as pages
@@ -135,14 +135,14 @@ returns-else-next-end g c =
     let n = c.count-count.ensures.gives ∙ ap length c.load.ensures.keeps in
     record {
       lawful = λ set w.
-          let h = head_is k s card set w c.in-Ok.bytes _ _ _ c.in-Ok.ensures.gives.1 c.in-Ok-read-head.ensures.1 in
+          let h = head_is k s card set w c.in-Ok.bytes _ _ _ c.in-Ok.ensures.gives.1 c.in-Ok-read_head.ensures.1 in
           let r = rooted k s card set w (summary k c.in-Some-root.root) (h.2 ∙ ap (root_summary k) c.in-Some-root.is) in
-          let p : length card ≡ suc (c.in-Some.pages + c.in-Ok-read-head.head.free) = sym n ∙ c.in-Some.ensures.0 in
+          let p : length card ≡ suc (c.in-Some.pages + c.in-Ok-read_head.head.free) = sym n ∙ c.in-Some.ensures.0 in
           let e = root_end k s card set w c.in-Some.pages _ h.1 p r.tree r.is_root r.stands in
-          let f : c.in-Some.pages * c.record-size.result ≡ length (outline k (shape r.tree)) = ap (λ z. c.in-Some.pages * z) c.record-size.ensures ∙ e in
-          let v = c.in-Ok-outline-below.ensures.lawful set r.tree (reached_on k c.load.ensures.keeps (root_reached k s card set _ r.tree r.stands (ap (summary k) c.in-Some-root.root_is ∙ sym r.entry_is))) (omega arith) (omega arith) in
+          let f : c.in-Some.pages * c.record_size.result ≡ length (outline k (shape r.tree)) = ap (λ z. c.in-Some.pages * z) c.record_size.ensures ∙ e in
+          let v = c.in-Ok-outline_below.ensures.lawful set r.tree (reached_on k c.load.ensures.keeps (root_reached k s card set _ r.tree r.stands (ap (summary k) c.in-Some-root.root_is ∙ sym r.entry_is))) (omega arith) (omega arith) in
           let m = ok_is v.0 in
           absurd (c.if-next-end.false (omega arith));
       always = inl refl;
-      keeps = c.outline-below.ensures.keeps ∙ c.load.ensures.keeps;
+      keeps = c.outline_below.ensures.keeps ∙ c.load.ensures.keeps;
     }

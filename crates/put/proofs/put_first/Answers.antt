@@ -19,16 +19,16 @@ returns-then-head-eq0 g c =
     }
 
 -- the first page of its chain is free
-pub returns-in-default : goal.returns-in-default
-returns-in-default g c =
+pub returns-in_default : goal.returns-in_default
+returns-in_default g c =
     let k = g.K.PointKind.kind in
     let s = g.met.K.PointKind.sound in
     record {
       lawful = λ set w f n e.
           let m = chain_some k s _ set w c.args.p.now c.requires.on (no_root k s _ set w e).0 in
           let l = first_link k s _ set w _ m f in
-          absurd (c.in-default.ensures.gives.1 _ l.reads);
-      always = (c.next-page.ensures.keeps, inl refl);
+          absurd (c.in_default.ensures.gives.1 _ l.reads);
+      always = (c.next_page.ensures.keeps, inl refl);
     }
 
 pub returns : goal.returns
@@ -38,11 +38,11 @@ returns g c =
     let p = c.args.p.now in
     let card = g.S.PageStore.pages c.args.store.now in
     let first = c.args.head.now.first in
-    let keep = c.next-page.ensures.keeps in
+    let keep = c.next_page.ensures.keeps in
     let own = entry_of k s c.entry.result first _ (p ∷ []) c.one-points.ensures c.entry.ensures.page c.entry.ensures.count c.entry.ensures.low c.entry.ensures.high in
-    let wrote : ◌≡◌ {A = Card} (g.S.PageStore.pages c.put-page.new.store) (set card first (encode k (data_view (k.coords p ∷ [])))) =
-    c.put-page.ensures ∙ ap₂ (λ (a : Card) b. set a first b) keep (c.page.ensures ∙ ap (λ ys. encode k (data_view (map k.coords ys))) c.one-points.ensures) in
-    let head = c.put-page-2.ensures ∙ ap (λ b. set (g.S.PageStore.pages c.put-page.new.store) 0 b) c.head-page.ensures in
+    let wrote : ◌≡◌ {A = Card} (g.S.PageStore.pages c.put_page.new.store) (set card first (encode k (data_view (k.coords p ∷ [])))) =
+    c.put_page.ensures ∙ ap₂ (λ (a : Card) b. set a first b) keep (c.page.ensures ∙ ap (λ ys. encode k (data_view (map k.coords ys))) c.one-points.ensures) in
+    let head = c.put_page-2.ensures ∙ ap (λ b. set (g.S.PageStore.pages c.put_page.new.store) 0 b) c.head_page.ensures in
     record {
       lawful = λ set' w f n e.
           let z = no_root k s _ set' w e in

@@ -13,41 +13,41 @@ use Rattle.take.proofs.Cards.{linked_size, live_has, live_has_not, root_shrinkin
 use Rattle.take.proofs.take.Goals as goal
 
 -- off an axis
-pub returns-then-not-on-axes : goal.returns-then-not-on-axes
-returns-then-not-on-axes g c =
-    let off = c.if-not-on-axes.ensures in
+pub returns-then-not-on_axes : goal.returns-then-not-on_axes
+returns-then-not-on_axes g c =
+    let off = c.if-not-on_axes.ensures in
     record { lawful = λ ps w. record { answers = take_off off; leaves = refl }; always = (refl, inl (off, refl)) }
 
 -- page 0 of a lawful card is there
-pub returns-in-default : goal.returns-in-default
-returns-in-default g c = record {
-  lawful = λ ps w. let a = w.size.0 in absurd (c.in-default.ensures.gives.1 (omega arith));
-  always = (c.load.ensures.keeps, inr (c.if-not-on-axes.ensures, inl refl));
+pub returns-in_default : goal.returns-in_default
+returns-in_default g c = record {
+  lawful = λ ps w. let a = w.size.0 in absurd (c.in_default.ensures.gives.1 (omega arith));
+  always = (c.load.ensures.keeps, inr (c.if-not-on_axes.ensures, inl refl));
 }
 
 -- the head of a lawful card is read
-pub returns-in-default-read-head : goal.returns-in-default-read-head
-returns-in-default-read-head g c =
+pub returns-in_default-read_head : goal.returns-in_default-read_head
+returns-in_default-read_head g c =
     let k = g.K.PointKind.kind in
     let bs = c.in-Ok.bytes in
     record {
-      lawful = λ ps w. absurd (never_headless k g.met.K.PointKind.sound _ ps w {X = Head g.row.K.Denot} bs (λ x. HeadRead k bs (Some x)) c.in-default-read-head.field-0 c.in-Ok.ensures.gives.1 c.in-default-read-head.ensures);
-      always = (c.load.ensures.keeps, inr (c.if-not-on-axes.ensures, inl refl));
+      lawful = λ ps w. absurd (never_headless k g.met.K.PointKind.sound _ ps w {X = Head g.row.K.Denot} bs (λ x. HeadRead k bs (Some x)) c.in_default-read_head.field-0 c.in-Ok.ensures.gives.1 c.in_default-read_head.ensures);
+      always = (c.load.ensures.keeps, inr (c.if-not-on_axes.ensures, inl refl));
     }
 
 -- an empty draft
-pub returns-in-default-root : goal.returns-in-default-root
-returns-in-default-root g c =
+pub returns-in_default-root : goal.returns-in_default-root
+returns-in_default-root g c =
     let k = g.K.PointKind.kind in
     let s = g.met.K.PointKind.sound in
     let card = g.S.PageStore.pages c.args.store.now in
     let p = c.args.p.now in
-    let on = c.if-not-on-axes.ensures in
+    let on = c.if-not-on_axes.ensures in
     let keeps = c.load.ensures.keeps in
     record {
       lawful = λ ps w.
-          let h = head_is k s card ps w c.in-Ok.bytes _ _ _ c.in-Ok.ensures.gives.1 c.in-Ok-read-head.ensures.1 in
-          let none = (no_root k s card ps w (h.2 ∙ ap (root_summary k) c.in-default-root.is)).1 in
+          let h = head_is k s card ps w c.in-Ok.bytes _ _ _ c.in-Ok.ensures.gives.1 c.in-Ok-read_head.ensures.1 in
+          let none = (no_root k s card ps w (h.2 ∙ ap (root_summary k) c.in_default-root.is)).1 in
           record { answers = take_absent on (λ has. let a = has.1 in let b = ap length none in omega arith); leaves = keeps };
       always = (keeps, inr (on, inr refl));
     }
@@ -59,11 +59,11 @@ returns-then-free g c =
     let s = g.met.K.PointKind.sound in
     let card = g.S.PageStore.pages c.args.store.now in
     let p = c.args.p.now in
-    let on = c.if-not-on-axes.ensures in
+    let on = c.if-not-on_axes.ensures in
     let keeps = c.load.ensures.keeps in
     record {
       lawful = λ ps w.
-          let h = head_is k s card ps w c.in-Ok.bytes _ _ _ c.in-Ok.ensures.gives.1 c.in-Ok-read-head.ensures.1 in
+          let h = head_is k s card ps w c.in-Ok.bytes _ _ _ c.in-Ok.ensures.gives.1 c.in-Ok-read_head.ensures.1 in
           let r = rooted k s card ps w (summary k c.in-Some.root) (h.2 ∙ ap (root_summary k) c.in-Some.is) in
           let few = few_free k s card ps w p r.tree r.is_root in
           absurd (omega (arith, h.1, c.if-free.true));
@@ -71,19 +71,19 @@ returns-then-free g c =
     }
 
 -- refused on the way
-pub returns-in-err-taken : goal.returns-in-err-taken
-returns-in-err-taken g c =
+pub returns-in_err-taken : goal.returns-in_err-taken
+returns-in_err-taken g c =
     let k = g.K.PointKind.kind in
     let s = g.met.K.PointKind.sound in
     let card = g.S.PageStore.pages c.args.store.now in
     let p = c.args.p.now in
-    let on = c.if-not-on-axes.ensures in
+    let on = c.if-not-on_axes.ensures in
     let keeps = c.load.ensures.keeps in
-    let exit = err_from_is_err_and c.from-residual.result c.from-residual.ensures.1 in
-    let sub = c.in-err-taken.ensures in
+    let exit = err_from_is_err_and c.from_residual.result c.from_residual.ensures.1 in
+    let sub = c.in_err-taken.ensures in
     record {
       lawful = λ ps w.
-          let h = head_is k s card ps w c.in-Ok.bytes _ _ _ c.in-Ok.ensures.gives.1 c.in-Ok-read-head.ensures.1 in
+          let h = head_is k s card ps w c.in-Ok.bytes _ _ _ c.in-Ok.ensures.gives.1 c.in-Ok-read_head.ensures.1 in
           let r = rooted k s card ps w (summary k c.in-Some.root) (h.2 ∙ ap (root_summary k) c.in-Some.is) in
           let reached = subst (λ (a : Card). Shrinking k a ps (summary k c.in-Some.root) 0 r.tree) (sym keeps) (root_shrinking k s card ps w p (summary k c.in-Some.root) r.tree r.is_root r.entry_is) in
           let no = sub.lawful ps r.tree reached in
@@ -98,26 +98,26 @@ returns g c =
     let s = g.met.K.PointKind.sound in
     let card = g.S.PageStore.pages c.args.store.now in
     let p = c.args.p.now in
-    let on = c.if-not-on-axes.ensures in
+    let on = c.if-not-on_axes.ensures in
     let keeps = c.load.ensures.keeps in
-    let sub = c.in-ok-taken.ensures in
-    let taken = c.in-ok-taken.taken in
-    let first = c.in-Ok-read-head.head.first in
-    let free = c.in-Ok-read-head.head.free in
-    let mid = g.S.PageStore.pages c.take-below.new.store in
-    let after = g.S.PageStore.pages c.put-page.new.store in
+    let sub = c.in_ok-taken.ensures in
+    let taken = c.in_ok-taken.taken in
+    let first = c.in-Ok-read_head.head.first in
+    let free = c.in-Ok-read_head.head.free in
+    let mid = g.S.PageStore.pages c.take_below.new.store in
+    let after = g.S.PageStore.pages c.put_page.new.store in
     let next = c.release-next.result in
     let made = c.release-next.ensures in
     let linked-card = linked k mid (freed taken) first in
     let written : after ≡ set linked-card 0 (encode k (head_view (front_of (freed taken) first) (length (freed taken) + free) (left_entry k taken))) =
-    c.put-page.ensures ∙ ap₂ (λ (a : Card) (b : List ℕ). set a 0 b) made.pages (c.head-page.ensures
+    c.put_page.ensures ∙ ap₂ (λ (a : Card) (b : List ℕ). set a 0 b) made.pages (c.head_page.ensures
     ∙ ap (λ i. encode k (head_view i next.free (root_summary k next.root))) made.first
     ∙ ap (λ i. encode k (head_view (front_of (freed taken) first) i (root_summary k next.root))) made.free
     ∙ ap (λ (o : Option Summary). encode k (head_view (front_of (freed taken) first) (length (freed taken) + free) o)) made.root) in
     let within = subst (λ (a : Card). All (λ q. q < length a) (freed taken)) keeps sub.always.1 in
     record {
       lawful = λ ps w.
-          let h = head_is k s card ps w c.in-Ok.bytes _ _ _ c.in-Ok.ensures.gives.1 c.in-Ok-read-head.ensures.1 in
+          let h = head_is k s card ps w c.in-Ok.bytes _ _ _ c.in-Ok.ensures.gives.1 c.in-Ok-read_head.ensures.1 in
           let r = rooted k s card ps w (summary k c.in-Some.root) (h.2 ∙ ap (root_summary k) c.in-Some.is) in
           let reached = subst (λ (a : Card). Shrinking k a ps (summary k c.in-Some.root) 0 r.tree) (sym keeps) (root_shrinking k s card ps w p (summary k c.in-Some.root) r.tree r.is_root r.entry_is) in
           let shrunk = subst (λ (a : Card). Shrunk k a ps p r.tree taken mid) keeps (sub.lawful ps r.tree reached) in

@@ -79,7 +79,7 @@ returns-in-List g c =
     let v = c.in-List.buffer in
     let ws = c.list_answer.new.buffer in
     let r = c.list_answer.result in
-    let given = c.as-mut-slice.ensures.value in
+    let given = c.as_mut_slice.ensures.value in
     let same = c.list_answer.auto.buffer in
     record {
       lawful = λ set w. subst (λ x. Stepped k before after set w x (reply.List r (with_items v ws))) (sym c.in-List.is) (stays k before after set w _ _ c.list_answer.ensures.keeps (list_agree k c.in-List.window c.in-List.skip v _ ws given same r _ set (c.list_answer.ensures.lawful set w)) list_stays);
@@ -95,7 +95,7 @@ returns-in-Outline g c =
     let v = c.in-Outline.buffer in
     let ws = c.outline_answer.new.buffer in
     let r = c.outline_answer.result in
-    let given = c.as-mut-slice-in-Outline.ensures.value in
+    let given = c.as_mut_slice-in-Outline.ensures.value in
     let same = c.outline_answer.auto.buffer in
     record {
       lawful = λ set w. subst (λ x. Stepped k before after set w x (reply.Outline r (with_items v ws))) (sym c.in-Outline.is) (stays k before after set w _ _ c.outline_answer.ensures.keeps (outline_agree k v _ ws given same r _ set (c.outline_answer.ensures.lawful set w)) outline_stays);

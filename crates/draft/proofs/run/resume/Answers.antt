@@ -29,7 +29,7 @@ loop-call-preserved g c =
       simp append_assoc (ap (λ t. c.loop-call.yielded ++ t) (sym c.in-Some.ensures.steps.0) ∙ c.loop-call.invariant.3),
       (let a = c.loop-call.invariant.4 in search rules),
       c.call-reply.ensures.origin ∙ c.loop-call.invariant.5,
-      (λ set w. subst (λ rs. Runs k (length card) card set (c.loop-call.yielded ++ c.in-Some.call ∷ []) rs (g.S.PageStore.pages c.call-reply.new.self.store)) (sym c.push-reserved.ensures.items) (runs_more k (length card) (c.loop-call.invariant.6 set w) c.call-reply.ensures.lawful)),
+      (λ set w. subst (λ rs. Runs k (length card) card set (c.loop-call.yielded ++ c.in-Some.call ∷ []) rs (g.S.PageStore.pages c.call-reply.new.self.store)) (sym c.push_reserved.ensures.items) (runs_more k (length card) (c.loop-call.invariant.6 set w) c.call-reply.ensures.lawful)),
     )
 
 pub returns : goal.returns
@@ -38,7 +38,7 @@ returns g c =
     let card = g.S.PageStore.pages c.args.draft.store in
     let rest = into_iter_items c.loop-call.call-iterator in
     let over : rest ≡ [] = nil_from_length rest (omega (arith, c.in-None.ensures.steps.0, c.loop-call.call-iterator.rest.ok.0)) in
-    let made : into_iter_items c.into-iter-call-iterator.result ≡ vec_items c.args.calls = c.into-iter-call-iterator.ensures.into-iter-gives.0 in
+    let made : into_iter_items c.into_iter-call-iterator.result ≡ vec_items c.args.calls = c.into_iter-call-iterator.ensures.into_iter-gives.0 in
     let all : c.loop-call.yielded ≡ vec_items c.args.calls = sym (append-nil _) ∙ ap (λ t. c.loop-call.yielded ++ t) (sym over) ∙ c.loop-call.invariant.3 ∙ made in
     record {
       lawful = λ set w. subst (λ cs. Runs k (length card) card set cs (vec_items c.loop-call.replies) (g.S.PageStore.pages c.loop-call.draft.store)) all (c.loop-call.invariant.6 set w);

@@ -7,11 +7,11 @@ use Rattle.lookup.proofs.tally.tally.Goals.{then-count-gt65535-via-then-count-gt
 use Rattle.lookup.proofs.tally.tally.Goals as goal
 
 -- the head of a lawful card is read
-pub returns-in-default-read-head : goal.returns-in-default-read-head
-returns-in-default-read-head g c =
+pub returns-in_default-read_head : goal.returns-in_default-read_head
+returns-in_default-read_head g c =
     let k = g.K.PointKind.kind in
     record {
-      lawful = λ set w. never_headless k g.met.K.PointKind.sound _ set w {X = Head g.row.K.Denot} c.in-Ok.bytes (λ x. HeadRead k c.in-Ok.bytes (Some x)) c.in-default-read-head.field-0 c.in-Ok.ensures.gives.1 c.in-default-read-head.ensures;
+      lawful = λ set w. never_headless k g.met.K.PointKind.sound _ set w {X = Head g.row.K.Denot} c.in-Ok.bytes (λ x. HeadRead k c.in-Ok.bytes (Some x)) c.in_default-read_head.field-0 c.in-Ok.ensures.gives.1 c.in_default-read_head.ensures;
       always = refl;
       keeps = c.load.ensures.keeps;
     }
@@ -23,7 +23,7 @@ returns-then-count-gt65535 g c =
     let s = g.met.K.PointKind.sound in
     record {
       lawful = λ set w.
-          let h = head_is k s _ set w c.in-Ok.bytes _ _ _ c.in-Ok.ensures.gives.1 c.in-Ok-read-head.ensures.1 in
+          let h = head_is k s _ set w c.in-Ok.bytes _ _ _ c.in-Ok.ensures.gives.1 c.in-Ok-read_head.ensures.1 in
           let n = c.count-count.ensures.gives ∙ ap length c.load.ensures.keeps in
           let big = w.size.1 in
           let f = free_fits k s _ set w _ h.1 in
@@ -41,18 +41,18 @@ returns g c =
     let s = g.met.K.PointKind.sound in
     record {
       lawful = λ set w.
-          let h = head_is k s _ set w c.in-Ok.bytes _ _ _ c.in-Ok.ensures.gives.1 c.in-Ok-read-head.ensures.1 in
+          let h = head_is k s _ set w c.in-Ok.bytes _ _ _ c.in-Ok.ensures.gives.1 c.in-Ok-read_head.ensures.1 in
           let n = c.count-count.ensures.gives ∙ ap length c.load.ensures.keeps in
-          let f : length w.chain ≡ c.from-free-pages.result = h.1 ∙ sym c.from-free-pages.ensures in
-          let left = pages_left k s _ set w c.from-free-pages.result f c.count-count.result n in
+          let f : length w.chain ≡ c.from-free_pages.result = h.1 ∙ sym c.from-free_pages.ensures in
+          let left = pages_left k s _ set w c.from-free_pages.result f c.count-count.result n in
           record {
             all_points = elim c.match-head.branch [
               | in-Some v ↦ v.points-is ∙ ap (λ x. x.count) v.in-Some.root_is ∙ sym (rooted k s _ set w (summary k v.in-Some.root) (h.2 ∙ ap (root_summary k) v.in-Some.is)).counts
               | in-None v ↦ v.points-is ∙ sym (ap length (no_root k s _ set w (h.2 ∙ ap (root_summary k) v.in-None.is)).1)
             ];
-            all_data = data_are k s _ set w c.from-free-pages.result f _ left;
-            all_directories = directories_are k s _ set w c.from-free-pages.result f _ left;
-            all_pages = free_are k s _ set w c.from-free-pages.result f;
+            all_data = data_are k s _ set w c.from-free_pages.result f _ left;
+            all_directories = directories_are k s _ set w c.from-free_pages.result f _ left;
+            all_pages = free_are k s _ set w c.from-free_pages.result f;
           };
       always = tt;
       keeps = c.load.ensures.keeps;

@@ -5,4 +5,4 @@ use Rattle.outlines.proofs.Writes.{wrote_part}
 use Rattle.outlines.proofs.record.put_four.Goals as goal
 
 pub returns : goal.returns
-returns c = wrote_part c.args.at _ c.args.buffer.now _ (bytes 4 c.args.number) (omega arith) (c.copy-from-slice.ensures.after ∙ c.to-le-bytes.ensures ∙ four_bytes c.args.number) (omega (arith, c.requires))
+returns c = wrote_part c.args.at _ c.args.buffer.now _ (bytes 4 c.args.number) (omega arith) (c.copy_from_slice.ensures.after ∙ c.to_le_bytes.ensures ∙ four_bytes c.args.number) (omega (arith, c.requires))

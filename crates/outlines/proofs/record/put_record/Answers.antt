@@ -13,16 +13,16 @@ returns g c =
     let lo = bytes_of k e.low in
     let hi = bytes_of k e.high in
     let s = c.size.ensures in
-    let l = c.put-point.ensures.long in
-    let h = c.put-point-2.ensures.long in
+    let l = c.put_point.ensures.long in
+    let h = c.put_point-2.ensures.long in
     let shared = c.depth-shared.result in
     let both = length-append lo hi in
-    let corners = wrote_then _ lo _ (at + 6) c.put-point.ensures.wrote (at + 6 + c.size.result) hi _ (omega arith) c.put-point-2.ensures.wrote in
-    let from-shared = wrote_then _ (shared ∷ []) _ (at + 5) c.put-byte-2.ensures (at + 6) (lo ++ hi) _ (omega arith) corners in
-    let from-count = wrote_then _ (bytes 4 e.count) _ (at + 1) c.put-four.ensures (at + 5) (shared ∷ (lo ++ hi)) _ (omega arith) from-shared in
-    let all = wrote_then _ (c.number.result ∷ []) _ at c.put-byte.ensures (at + 1) (bytes 4 e.count ++ (shared ∷ (lo ++ hi))) _ (omega arith) from-count in
-    let named = subst (λ n. Wrote c.args.buffer.now at (n ∷ (bytes 4 e.count ++ (shared ∷ (lo ++ hi)))) c.put-point-2.new.buffer) c.number.ensures all in
+    let corners = wrote_then _ lo _ (at + 6) c.put_point.ensures.wrote (at + 6 + c.size.result) hi _ (omega arith) c.put_point-2.ensures.wrote in
+    let from-shared = wrote_then _ (shared ∷ []) _ (at + 5) c.put_byte-2.ensures (at + 6) (lo ++ hi) _ (omega arith) corners in
+    let from-count = wrote_then _ (bytes 4 e.count) _ (at + 1) c.put_four.ensures (at + 5) (shared ∷ (lo ++ hi)) _ (omega arith) from-shared in
+    let all = wrote_then _ (c.number.result ∷ []) _ at c.put_byte.ensures (at + 1) (bytes 4 e.count ++ (shared ∷ (lo ++ hi))) _ (omega arith) from-count in
+    let named = subst (λ n. Wrote c.args.buffer.now at (n ∷ (bytes 4 e.count ++ (shared ∷ (lo ++ hi)))) c.put_point-2.new.buffer) c.number.ensures all in
     record {
-      wrote = subst (λ n. Wrote c.args.buffer.now at (sort_number c.args.sort ∷ (bytes 4 e.count ++ (n ∷ (lo ++ hi)))) c.put-point-2.new.buffer) c.depth-shared.ensures.zeros named;
+      wrote = subst (λ n. Wrote c.args.buffer.now at (sort_number c.args.sort ∷ (bytes 4 e.count ++ (n ∷ (lo ++ hi)))) c.put_point-2.new.buffer) c.depth-shared.ensures.zeros named;
       long = omega arith;
     }

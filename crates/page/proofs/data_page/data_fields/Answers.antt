@@ -19,8 +19,8 @@ returns-then-count-lt1 g c =
     refused k g.met.K.PointKind.sound bs (data_cause c.requires.kind wrong)
 
 -- a place whose bytes are no point's
-pub returns-in-default : goal.returns-in-default
-returns-in-default g c = refused g.K.PointKind.kind g.met.K.PointKind.sound c.args.bytes.now (data_cause c.requires.kind (point_off c.loop-i.i (omega (arith, c.loop-i-test.true)) c.in-default.ensures))
+pub returns-in_default : goal.returns-in_default
+returns-in_default g c = refused g.K.PointKind.kind g.met.K.PointKind.sound c.args.bytes.now (data_cause c.requires.kind (point_off c.loop-i.i (omega (arith, c.loop-i-test.true)) c.in_default.ensures))
 
 pub loop-i-preserved : goal.loop-i-preserved
 loop-i-preserved g c =
@@ -40,11 +40,11 @@ tail-start g c =
     let fit = g.met.K.PointKind.sound.data_fits in
     end_page (get_or c.args.bytes.now 1 0) k.capacity (size k.axes) c.size.result (omega (arith, c.if-count-capacity.false, c.capacity.ensures)) c.size.ensures (omega arith)
 
-pub slice-bounds-zeros-count : goal.slice-bounds-zeros-count
-slice-bounds-zeros-count g c = omega (arith, tail-start g c, c.requires.whole)
+pub slice_bounds-zeros-count : goal.slice_bounds-zeros-count
+slice_bounds-zeros-count g c = omega (arith, tail-start g c, c.requires.whole)
 
-pub slice-bounds-zeros-start : goal.slice-bounds-zeros-start
-slice-bounds-zeros-start g c = omega (arith, tail-start g c, c.requires.whole)
+pub slice_bounds-zeros-start : goal.slice_bounds-zeros-start
+slice_bounds-zeros-start g c = omega (arith, tail-start g c, c.requires.whole)
 
 pub returns : goal.returns
 returns g c =

@@ -7,14 +7,14 @@ use Rattle.page.proofs.data_page.holds_point.Goals as goal
 pub returns-then-count-capacity : goal.returns-then-count-capacity
 returns-then-count-capacity g c ps r = let q = count_is g.K.PointKind.kind c.args.bytes.now ps r in let m = r.fields.fit in absurd (omega (arith, q, m, c.if-count-capacity.true, c.capacity.ensures))
 
-pub returns-in-default : goal.returns-in-default
-returns-in-default g c ps r =
+pub returns-in_default : goal.returns-in_default
+returns-in_default g c ps r =
     let k = g.K.PointKind.kind in
     let bs = c.args.bytes.now in
     let q = count_is k bs ps r in
     let lt : c.loop-i.i < length ps = omega (arith, q, c.loop-i-test.true) in
     let s = some_read k bs ps c.loop-i.i _ r lt refl in
-    absurd (c.in-default.ensures (get_or ps c.loop-i.i []) s.0 s.1)
+    absurd (c.in_default.ensures (get_or ps c.loop-i.i []) s.0 s.1)
 
 pub returns-then-code-sought : goal.returns-then-code-sought
 returns-then-code-sought g c ps r rising =

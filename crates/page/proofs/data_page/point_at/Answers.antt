@@ -4,8 +4,8 @@ use Rattle.page.proofs.Runs.{within_page, cut}
 use Rattle.page.proofs.Parts.{point_read}
 use Rattle.page.proofs.data_page.point_at.Goals as goal
 
-pub slice-bounds-read-end : goal.slice-bounds-read-end
-slice-bounds-read-end g c =
+pub slice_bounds-read-end : goal.slice_bounds-read-end
+slice_bounds-read-end g c =
     let k = g.K.PointKind.kind in
     let fit = g.met.K.PointKind.sound.data_fits in
     let w = within_page c.args.place k.capacity k.capacity (size_of k) c.size-size.result c.requires.below (omega arith) c.size-size.ensures (omega arith) in

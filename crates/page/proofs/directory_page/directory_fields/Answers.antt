@@ -12,23 +12,23 @@ returns-then-depth-bits g c =
     let k = g.K.PointKind.kind in
     refused k g.met.K.PointKind.sound c.args.bytes.now (directory_cause c.requires.kind (too_deep (omega (arith, c.if-depth-bits.true, c.bits.ensures))))
 
-pub returns-in-default : goal.returns-in-default
-returns-in-default g c =
+pub returns-in_default : goal.returns-in_default
+returns-in_default g c =
     let k = g.K.PointKind.kind in
     let bs = c.args.bytes.now in
     let z = 6 + 2 * c.size.result in
     let e : 6 + 2 * c.size.result ≡ entry_length k = omega (arith, c.size.ensures) in
     let part = c.over.ensures ∙ cut_low bs z ∙ ap (λ n. take n (drop 2 bs)) e in
-    refused k g.met.K.PointKind.sound bs (directory_cause c.requires.kind (low_wrong (subst (EntryCause k) part c.in-default.ensures.reads.1)))
+    refused k g.met.K.PointKind.sound bs (directory_cause c.requires.kind (low_wrong (subst (EntryCause k) part c.in_default.ensures.reads.1)))
 
-pub returns-in-default-read : goal.returns-in-default-read
-returns-in-default-read g c =
+pub returns-in_default-read : goal.returns-in_default-read
+returns-in_default-read g c =
     let k = g.K.PointKind.kind in
     let bs = c.args.bytes.now in
     let z = 6 + 2 * c.size.result in
     let e : 6 + 2 * c.size.result ≡ entry_length k = omega (arith, c.size.ensures) in
     let part = c.over-2.ensures ∙ cut_high bs z ∙ ap (λ n. take n (drop n (drop 2 bs))) e in
-    refused k g.met.K.PointKind.sound bs (directory_cause c.requires.kind (high_wrong (subst (EntryCause k) part c.in-default-read.ensures.reads.1)))
+    refused k g.met.K.PointKind.sound bs (directory_cause c.requires.kind (high_wrong (subst (EntryCause k) part c.in_default-read.ensures.reads.1)))
 
 pub returns-then-not-zeros : goal.returns-then-not-zeros
 returns-then-not-zeros g c =

@@ -13,16 +13,16 @@ loop-i-init g c =
     let k = g.K.PointKind.kind in
     let d = c.data_kind.result in
     let n = length c.args.points.now in
-    let x1 = c.put-byte.ensures [] refl refl in
-    let x2 = c.put-byte-2.ensures (d ∷ []) refl x1 ∙ ap (λ x. padded (x ∷ (n ∷ []))) c.data_kind.ensures in
+    let x1 = c.put_byte.ensures [] refl refl in
+    let x2 = c.put_byte-2.ensures (d ∷ []) refl x1 ∙ ap (λ x. padded (x ∷ (n ∷ []))) c.data_kind.ensures in
     (ap length x2 ∙ padded_long (k.data_kind ∷ (n ∷ [])) (omega arith), x2, omega arith)
 
 -- a point within the page
 fits : (g : given.Over) (i r : ℕ) → i < g.K.PointKind.kind.capacity → r ≡ size_of g.K.PointKind.kind → (2 + i * r) + r ≤ 64
 fits g i r lt e = let k = g.K.PointKind.kind in let fit = g.met.K.PointKind.sound.data_fits in within_page i k.capacity k.capacity (size_of k) r lt (omega arith) e (omega arith)
 
-pub put-point-requires : goal.put-point-requires
-put-point-requires g c =
+pub put_point-requires : goal.put_point-requires
+put_point-requires g c =
     let w = fits g c.loop-i.i c.size-size.result (omega (arith, c.loop-i-test.true, c.requires)) c.size-size.ensures in
     record { whole = c.loop-i.invariant.0; room = omega (arith, w, c.size-size.ensures) }
 
@@ -38,10 +38,10 @@ loop-i-preserved g c =
     let r = c.size-size.ensures in
     let at : i * c.size-size.result ≡ i * s = ap (λ x. i * x) r in
     let w = fits g i c.size-size.result (omega (arith, c.loop-i-test.true, c.requires)) r in
-    let x = c.put-point.ensures.adds (k.data_kind ∷ (length ps ∷ J)) (omega (arith, inv.2, at)) inv.1 in
+    let x = c.put_point.ensures.adds (k.data_kind ∷ (length ps ∷ J)) (omega (arith, inv.2, at)) inv.1 in
     let m = joined_more k ps i p c.loop-i-test.true c.index-points-i.is in
-    let y : c.put-point.new.page ≡ padded (k.data_kind ∷ (length ps ∷ flat_map (bytes_of k) (take (i + 1) ps))) = x ∙ ap (λ z. padded (k.data_kind ∷ (length ps ∷ z))) (sym m) in
-    let l = c.put-point.ensures.long in
+    let y : c.put_point.new.page ≡ padded (k.data_kind ∷ (length ps ∷ flat_map (bytes_of k) (take (i + 1) ps))) = x ∙ ap (λ z. padded (k.data_kind ∷ (length ps ∷ z))) (sym m) in
+    let l = c.put_point.ensures.long in
     let a = length-append J (bytes_of k p) in
     let e1 = add-mul i 1 s in
     let e2 = one-mul s in

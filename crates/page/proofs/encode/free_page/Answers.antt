@@ -4,4 +4,4 @@ use Rattle.page.proofs.encode.free_page.Goals as goal
 
 pub returns : goal.returns
 unfolding encode
-returns g c = c.put-two.ensures (0 ∷ []) refl refl
+returns g c = c.put_two.ensures (0 ∷ []) refl refl

@@ -12,8 +12,8 @@ returns g c =
     let lo = bytes_of k e.low in
     let hi = bytes_of k e.high in
     let s = c.size.ensures in
-    let l = c.put-point.ensures.long in
-    let a3 = adds_more (c.args.at + 6) (c.args.at + 6 + c.size.result) _ _ _ lo hi (omega arith) c.put-point.ensures.adds c.put-point-2.ensures.adds in
-    let a2 = adds_more (c.args.at + 2) (c.args.at + 6) _ _ _ (bytes 4 e.count) (lo ++ hi) (omega arith) c.put-four.ensures a3 in
-    let a1 = adds_more c.args.at (c.args.at + 2) _ _ _ (bytes 2 e.page) (bytes 4 e.count ++ (lo ++ hi)) (omega arith) c.put-two.ensures a2 in
-    record { adds = entry_adds k (summary k e) c.args.page.now c.args.at c.put-point-2.new.page a1; long = entry_long k (summary k e) l c.put-point-2.ensures.long }
+    let l = c.put_point.ensures.long in
+    let a3 = adds_more (c.args.at + 6) (c.args.at + 6 + c.size.result) _ _ _ lo hi (omega arith) c.put_point.ensures.adds c.put_point-2.ensures.adds in
+    let a2 = adds_more (c.args.at + 2) (c.args.at + 6) _ _ _ (bytes 4 e.count) (lo ++ hi) (omega arith) c.put_four.ensures a3 in
+    let a1 = adds_more c.args.at (c.args.at + 2) _ _ _ (bytes 2 e.page) (bytes 4 e.count ++ (lo ++ hi)) (omega arith) c.put_two.ensures a2 in
+    record { adds = entry_adds k (summary k e) c.args.page.now c.args.at c.put_point-2.new.page a1; long = entry_long k (summary k e) l c.put_point-2.ensures.long }

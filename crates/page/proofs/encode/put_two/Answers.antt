@@ -4,4 +4,4 @@ use Rattle.page.proofs.Writing.{adds_part}
 use Rattle.page.proofs.encode.put_two.Goals as goal
 
 pub returns : goal.returns
-returns c = adds_part c.args.at _ c.args.page.now _ (bytes 2 c.args.number) (omega arith) (c.copy-from-slice.ensures.after ∙ c.to-le-bytes.ensures) (omega (arith, c.requires.room))
+returns c = adds_part c.args.at _ c.args.page.now _ (bytes 2 c.args.number) (omega arith) (c.copy_from_slice.ensures.after ∙ c.to_le_bytes.ensures) (omega (arith, c.requires.room))

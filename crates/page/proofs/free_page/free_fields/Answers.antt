@@ -12,6 +12,6 @@ returns-then-not-zeros g c =
 pub returns : goal.returns
 returns g c =
     let bs = c.args.bytes.now in
-    let t = c.type-inv.bytes in
-    (free_reads g.K.PointKind.kind bs c.from-le-bytes.result c.requires.whole (λ i. let h = t i in omega arith) c.requires.kind c.from-le-bytes.ensures
+    let t = c.type_inv.bytes in
+    (free_reads g.K.PointKind.kind bs c.from_le_bytes.result c.requires.whole (λ i. let h = t i in omega arith) c.requires.kind c.from_le_bytes.ensures
     (sym (cut_rest bs 3) ∙ c.if-not-zeros.ensures ∙ ap (λ x. replicate (length x) 0) (cut_rest bs 3)))

@@ -4,5 +4,5 @@ use Rattle.page.proofs.numbers.two_bytes.Goals as goal
 
 pub returns : goal.returns
 returns c =
-    let t = c.type-inv.bytes in
-    record { form = two_at c.args.at c.from-le-bytes.result c.args.bytes.now c.requires (λ i. let h = t i in omega arith) c.from-le-bytes.ensures; fits = c.from-le-bytes.type-inv }
+    let t = c.type_inv.bytes in
+    record { form = two_at c.args.at c.from_le_bytes.result c.args.bytes.now c.requires (λ i. let h = t i in omega arith) c.from_le_bytes.ensures; fits = c.from_le_bytes.type_inv }

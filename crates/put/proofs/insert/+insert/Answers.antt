@@ -21,50 +21,50 @@ returns-then-at g t c =
     }
 
 -- no page of this number
-pub returns-in-default : goal.returns-in-default
-returns-in-default g t c =
+pub returns-in_default : goal.returns-in_default
+returns-in_default g t c =
     let k = g.K.PointKind.kind in
     record {
-      lawful = λ ps tree w. absurd (c.in-default.ensures.gives.1 (there k g.met.K.PointKind.sound _ _ refl ps _ _ _ tree w));
+      lawful = λ ps tree w. absurd (c.in_default.ensures.gives.1 (there k g.met.K.PointKind.sound _ _ refl ps _ _ _ tree w));
       always = (c.load.ensures.keeps, inl refl);
     }
 
 -- no page of the tree
-pub returns-in-default-read-node : goal.returns-in-default-read-node
-returns-in-default-read-node g t c =
+pub returns-in_default-read_node : goal.returns-in_default-read_node
+returns-in_default-read_node g t c =
     let k = g.K.PointKind.kind in
     let s = g.met.K.PointKind.sound in
     let bs = c.in-Ok.bytes in
     record {
-      lawful = λ ps tree w. absurd (never_fault k s {X = Node g.row.K.Denot} tree bs _ (NodeRead k bs) c.in-default-read-node.field-0 (reads k s _ _ refl ps _ _ _ tree w bs c.in-Ok.ensures.gives.1) c.in-default-read-node.ensures);
+      lawful = λ ps tree w. absurd (never_fault k s {X = Node g.row.K.Denot} tree bs _ (NodeRead k bs) c.in_default-read_node.field-0 (reads k s _ _ refl ps _ _ _ tree w bs c.in-Ok.ensures.gives.1) c.in_default-read_node.ensures);
       always = (c.load.ensures.keeps, inl refl);
     }
 
 -- a data page has points
-pub returns-in-default-of-page : goal.returns-in-default-of-page
-returns-in-default-of-page g t c =
+pub returns-in_default-of_page : goal.returns-in_default-of_page
+returns-in_default-of_page g t c =
     let k = g.K.PointKind.kind in
     let s = g.met.K.PointKind.sound in
     let bs = c.in-Ok.bytes in
-    let leaf = subst (NodeRead k bs) c.in-default-node.is c.in-Ok-read-node.ensures.1 in
+    let leaf = subst (NodeRead k bs) c.in_default-node.is c.in-Ok-read_node.ensures.1 in
     record {
-      lawful = λ ps tree w. absurd (some_points k s _ _ refl ps _ _ _ tree w bs c.in-Ok.ensures.gives.1 leaf c.in-default-of-page.ensures.tells);
+      lawful = λ ps tree w. absurd (some_points k s _ _ refl ps _ _ _ tree w bs c.in-Ok.ensures.gives.1 leaf c.in_default-of_page.ensures.tells);
       always = (c.load.ensures.keeps, inl refl);
     }
 
 -- a data page
-pub returns-in-default-node : goal.returns-in-default-node
-returns-in-default-node g t c =
+pub returns-in_default-node : goal.returns-in_default-node
+returns-in_default-node g t c =
     let k = g.K.PointKind.kind in
     let s = g.met.K.PointKind.sound in
     let bs = c.in-Ok.bytes in
     let keep = c.load.ensures.keeps in
-    let leaf = subst (NodeRead k bs) c.in-default-node.is c.in-Ok-read-node.ensures.1 in
+    let leaf = subst (NodeRead k bs) c.in_default-node.is c.in-Ok-read_node.ensures.1 in
     record {
       lawful = λ ps tree w.
           let d = points_are k s _ _ refl ps _ _ _ tree w bs c.in-Ok.ensures.gives.1 leaf (listed c.in-Some.points) c.in-Some.ensures.tells in
-          moved k s _ _ keep ps _ _ _ tree w _ c.args.p.now _ _ d.1 (c.put-here.ensures.lawful ps c.args.above d.0);
-      always = subst (λ (x : Card). AnyEnd x c.put-here.result (g.S.PageStore.pages c.put-here.new.store)) keep c.put-here.ensures.always;
+          moved k s _ _ keep ps _ _ _ tree w _ c.args.p.now _ _ d.1 (c.put_here.ensures.lawful ps c.args.above d.0);
+      always = subst (λ (x : Card). AnyEnd x c.put_here.result (g.S.PageStore.pages c.put_here.new.store)) keep c.put_here.ensures.always;
     }
 
 -- the depth rises
@@ -73,22 +73,22 @@ returns-then-fork-above g t c =
     let k = g.K.PointKind.kind in
     let s = g.met.K.PointKind.sound in
     let bs = c.in-Ok.bytes in
-    let fork = subst (NodeRead k bs) c.in-Directory.is c.in-Ok-read-node.ensures.1 in
+    let fork = subst (NodeRead k bs) c.in-Directory.is c.in-Ok-read_node.ensures.1 in
     record {
       lawful = λ ps tree w. absurd (not_shallow k s _ _ refl ps _ _ _ tree w bs _ _ _ c.in-Ok.ensures.gives.1 fork c.requires.short c.if-fork-above.true);
       always = (c.load.ensures.keeps, inl refl);
     }
 
 -- the first bits are not shared, and no pages are at hand
-pub returns-in-default-spare : goal.returns-in-default-spare
-returns-in-default-spare g t c =
+pub returns-in_default-spare : goal.returns-in_default-spare
+returns-in_default-spare g t c =
     let k = g.K.PointKind.kind in
     let s = g.met.K.PointKind.sound in
     let bs = c.in-Ok.bytes in
     let keep = c.load.ensures.keeps in
-    let fork = subst (NodeRead k bs) c.in-Directory.is c.in-Ok-read-node.ensures.1 in
+    let fork = subst (NodeRead k bs) c.in-Directory.is c.in-Ok-read_node.ensures.1 in
     record {
-      lawful = λ ps tree w. apart_full k s _ _ keep ps _ _ _ tree w bs _ _ _ c.in-Ok.ensures.gives.1 fork c.args.p.now _ c.depth-shared.ensures.shares c.if-shared-fork.true c.in-default-spare.is;
+      lawful = λ ps tree w. apart_full k s _ _ keep ps _ _ _ tree w bs _ _ _ c.in-Ok.ensures.gives.1 fork c.args.p.now _ c.depth-shared.ensures.shares c.if-shared-fork.true c.in_default-spare.is;
       always = (keep, inr (inr refl));
     }
 
@@ -99,9 +99,9 @@ returns-then-shared-fork g t c =
     let s = g.met.K.PointKind.sound in
     let bs = c.in-Ok.bytes in
     let keep = c.load.ensures.keeps in
-    let fork = subst (NodeRead k bs) c.in-Directory.is c.in-Ok-read-node.ensures.1 in
-    let e = c.put-beside.ensures in
-    let near = subst (λ (x : Card). All (λ q. q < length x) (spares c.args.spare)) (sym keep) c.requires.spare-there in
+    let fork = subst (NodeRead k bs) c.in-Directory.is c.in-Ok-read_node.ensures.1 in
+    let e = c.put_beside.ensures in
+    let near = subst (λ (x : Card). All (λ q. q < length x) (spares c.args.spare)) (sym keep) c.requires.spare_there in
     let both = subst (λ o. All (λ q. q < length (g.S.PageStore.pages c.load.new.store)) (spares o)) c.in-Some-spare.is near in
     record {
       lawful = λ ps tree w. apart_put k s _ _ keep ps _ _ _ tree w bs _ _ _ c.in-Ok.ensures.gives.1 fork c.args.p.now _ c.depth-shared.ensures.shares c.in-Some-spare.pages _ _ c.if-shared-fork.true c.in-Some-spare.is both.0 both.1.0 e.entry e.used e.written;
@@ -115,13 +115,13 @@ returns-in-Ok-insert g t c =
     let s = g.met.K.PointKind.sound in
     let bs = c.in-Ok.bytes in
     let keep = c.load.ensures.keeps in
-    let fork = subst (NodeRead k bs) c.in-Directory.is c.in-Ok-read-node.ensures.1 in
+    let fork = subst (NodeRead k bs) c.in-Directory.is c.in-Ok-read_node.ensures.1 in
     let mid = g.S.PageStore.pages c.insert.new.store in
-    let wrote = c.put-page.ensures ∙ ap (λ b. set mid c.args.at.page b) c.fork-page-page.ensures in
+    let wrote = c.put_page.ensures ∙ ap (λ b. set mid c.args.at.page b) c.fork_page-page.ensures in
     record {
       lawful = λ ps tree w. half_grown k s _ _ keep ps _ _ _ tree w bs _ _ _ c.in-Ok.ensures.gives.1 fork c.args.p.now _ c.depth-shared.ensures.shares c.if-shared-fork.false c.bit-bit.result c.bit-bit.ensures
           _ c.in-Ok-insert.grown mid _ _ _ c.sides-half.ensures.half c.sides-half.ensures.other c.widen.ensures refl wrote c.in-Ok-insert.ensures.lawful;
-      always = ap length c.put-page.ensures ∙ length-set mid _ _ ∙ c.in-Ok-insert.ensures.always ∙ ap length keep;
+      always = ap length c.put_page.ensures ∙ length-set mid _ _ ∙ c.in-Ok-insert.ensures.always ∙ ap length keep;
     }
 
 -- the half is refused
@@ -131,7 +131,7 @@ returns-in-Err g t c =
     let s = g.met.K.PointKind.sound in
     let bs = c.in-Ok.bytes in
     let keep = c.load.ensures.keeps in
-    let fork = subst (NodeRead k bs) c.in-Directory.is c.in-Ok-read-node.ensures.1 in
+    let fork = subst (NodeRead k bs) c.in-Directory.is c.in-Ok-read_node.ensures.1 in
     record {
       lawful = λ ps tree w. half_refused k s _ _ keep ps _ _ _ tree w bs _ _ _ c.in-Ok.ensures.gives.1 fork c.args.p.now _ c.depth-shared.ensures.shares c.if-shared-fork.false c.bit-bit.result c.bit-bit.ensures _ _ _ c.sides-half.ensures.half c.in-Err.ensures.lawful;
       always = (c.in-Err.ensures.always.0 ∙ keep, c.in-Err.ensures.always.1);

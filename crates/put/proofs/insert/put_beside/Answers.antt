@@ -24,8 +24,8 @@ returns g c =
     record {
       entry = c.widen.ensures;
       used = refl;
-      written = c.put-page-2.ensures
+      written = c.put_page-2.ensures
           ∙ ap₂ (λ (a : Card) b. set a x.fork b)
-          (c.put-page.ensures ∙ ap (λ b. set (g.S.PageStore.pages c.args.store.now) x.leaf b) (c.page.ensures ∙ ap (λ ys. encode k (data_view (map k.coords ys))) c.one-alone.ensures))
-          (c.fork-page-fork.ensures ∙ ap₂ bytes c.bit.ensures own);
+          (c.put_page.ensures ∙ ap (λ b. set (g.S.PageStore.pages c.args.store.now) x.leaf b) (c.page.ensures ∙ ap (λ ys. encode k (data_view (map k.coords ys))) c.one-alone.ensures))
+          (c.fork_page-fork.ensures ∙ ap₂ bytes c.bit.ensures own);
     }

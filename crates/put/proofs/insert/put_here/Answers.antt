@@ -41,22 +41,22 @@ returns-then-count-capacity g c =
     let card = g.S.PageStore.pages c.args.store.now in
     let new : live (code_of k) p (listed c.args.points.now) ≡ false = sym c.holds.ensures ∙ c.if-holds.false in
     let lt : length (listed c.args.points.now) < k.capacity = omega (arith, c.count.ensures, c.capacity.ensures, c.if-count-capacity.true) in
-    let wrote : ◌≡◌ {A = Card} (g.S.PageStore.pages c.put-page.new.store) (set card c.args.at.now.page (encode k (data_view (map k.coords (with_point (code_of k) p (listed c.args.points.now)))))) =
-    c.put-page.ensures ∙ ap (λ b. set card c.args.at.now.page b) (c.page.ensures ∙ ap (λ ys. encode k (data_view (map k.coords ys))) c.with-all.ensures) in
+    let wrote : ◌≡◌ {A = Card} (g.S.PageStore.pages c.put_page.new.store) (set card c.args.at.now.page (encode k (data_view (map k.coords (with_point (code_of k) p (listed c.args.points.now)))))) =
+    c.put_page.ensures ∙ ap (λ b. set card c.args.at.now.page b) (c.page.ensures ∙ ap (λ ys. encode k (data_view (map k.coords ys))) c.with-all.ensures) in
     record {
       lawful = λ ps above q w. here_room k s _ ps _ c.args.spare above q _ p w new _ _ lt (entry_of k s c.entry.result c.args.at.now.page _ _ c.with-all.ensures e.page e.count e.low e.high) refl wrote;
       always = ap length wrote ∙ length-set card c.args.at.now.page _;
     }
 
 -- a full page, and no pages at hand
-pub returns-in-default : goal.returns-in-default
-returns-in-default g c =
+pub returns-in_default : goal.returns-in_default
+returns-in_default g c =
     let k = g.K.PointKind.kind in
     let s = g.met.K.PointKind.sound in
     let new : live (code_of k) c.args.p.now (listed c.args.points.now) ≡ false = sym c.holds.ensures ∙ c.if-holds.false in
     let is_full : k.capacity ≤ length (listed c.args.points.now) = omega (arith, c.count.ensures, c.capacity.ensures, c.if-count-capacity.false) in
     record {
-      lawful = λ ps above q w. here_full k s _ ps _ c.args.spare above q _ c.args.p.now w new is_full c.requires.on c.in-default.is;
+      lawful = λ ps above q w. here_full k s _ ps _ c.args.spare above q _ c.args.p.now w new is_full c.requires.on c.in_default.is;
       always = (refl, inr (inr refl));
     }
 
@@ -72,15 +72,15 @@ split-requires g c =
     let most = c.requires.few in
     let all = c.with-all.ensures in
     let l = ap length all ∙ length_with (code_of k) p xs in
-    let there = subst (λ o. All (λ q. q < length (g.S.PageStore.pages c.args.store.now)) (spares o)) c.in-Some.is c.requires.spare-there in
+    let there = subst (λ o. All (λ q. q < length (g.S.PageStore.pages c.args.store.now)) (spares o)) c.in-Some.is c.requires.spare_there in
     record {
-      on = subst (All (On k)) (sym all) (all_with (code_of k) (On k) p xs c.requires.on c.requires.all-on);
+      on = subst (All (On k)) (sym all) (all_with (code_of k) (On k) p xs c.requires.on c.requires.all_on);
       few = omega (arith, l, most);
       some = omega (arith, l);
       mixed = subst (Mixed k) (sym all) (with_mixed k s p xs (omega (arith, is_full, room)) new);
       there = c.requires.there;
-      fork-there = there.0;
-      leaf-there = there.1.0;
+      fork_there = there.0;
+      leaf_there = there.1.0;
     }
 
 -- a full page is split
@@ -93,7 +93,7 @@ returns g c =
     let card = g.S.PageStore.pages c.args.store.now in
     let new : live (code_of k) p xs ≡ false = sym c.holds.ensures ∙ c.if-holds.false in
     let is_full : k.capacity ≤ length xs = omega (arith, c.count.ensures, c.capacity.ensures, c.if-count-capacity.false) in
-    let there = subst (λ o. All (λ q. q < length card) (spares o)) c.in-Some.is c.requires.spare-there in
+    let there = subst (λ o. All (λ q. q < length card) (spares o)) c.in-Some.is c.requires.spare_there in
     let done = subst (λ ys. Split k card ys c.args.at.now.page c.in-Some.pages c.split.result (g.S.PageStore.pages c.split.new.store)) c.with-all.ensures c.split.ensures in
     record {
       lawful = λ ps above q w. here_split k s _ ps _ c.args.spare above q xs p w new is_full c.in-Some.pages c.in-Some.is _ _ done there.0 there.1.0;

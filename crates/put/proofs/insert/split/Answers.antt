@@ -23,7 +23,7 @@ half-low-requires g c =
     let s = g.met.K.PointKind.sound in
     let xs = listed c.args.points.now in
     let d = depth_of k s _ _ _ xs c.requires.some c.requires.on c.entry-whole.ensures.low c.entry-whole.ensures.high c.depth-depth.ensures.set in
-    record { all-on = c.requires.on; shallow = (halves_of k s _ xs c.requires.mixed c.requires.few d).short }
+    record { all_on = c.requires.on; shallow = (halves_of k s _ xs c.requires.mixed c.requires.few d).short }
 
 pub half-high-requires : goal.half-high-requires
 half-high-requires g c =
@@ -31,7 +31,7 @@ half-high-requires g c =
     let s = g.met.K.PointKind.sound in
     let xs = listed c.args.points.now in
     let d = depth_of k s _ _ _ xs c.requires.some c.requires.on c.entry-whole.ensures.low c.entry-whole.ensures.high c.depth-depth.ensures.set in
-    record { all-on = c.requires.on; shallow = (halves_of k s _ xs c.requires.mixed c.requires.few d).short }
+    record { all_on = c.requires.on; shallow = (halves_of k s _ xs c.requires.mixed c.requires.few d).short }
 
 pub page-requires : goal.page-requires
 page-requires g c =
@@ -65,8 +65,8 @@ entry-requires-2 g c =
     let d = depth_of k s _ _ _ xs c.requires.some c.requires.on c.entry-whole.ensures.low c.entry-whole.ensures.high c.depth-depth.ensures.set in
     subst (λ ys. 1 ≤ length ys) (sym c.half-high.ensures) (halves_of k s _ xs c.requires.mixed c.requires.few d).high_some
 
-pub fork-page-fork-requires : goal.fork-page-fork-requires
-fork-page-fork-requires g c =
+pub fork_page-fork-requires : goal.fork_page-fork-requires
+fork_page-fork-requires g c =
     let k = g.K.PointKind.kind in
     let s = g.met.K.PointKind.sound in
     let xs = listed c.args.points.now in
@@ -88,12 +88,12 @@ returns g c =
     let el = entry_of k s c.entry.result q _ lows c.half-low.ensures c.entry.ensures.page c.entry.ensures.count c.entry.ensures.low c.entry.ensures.high in
     let eh = entry_of k s c.entry-2.result x.leaf _ highs c.half-high.ensures c.entry-2.ensures.page c.entry-2.ensures.count c.entry-2.ensures.low c.entry-2.ensures.high in
     let e = c.entry-whole.ensures in
-    let one : ◌≡◌ {A = Card} (g.S.PageStore.pages c.put-page.new.store) (set card q (data_bytes lows)) = c.put-page.ensures ∙ ap (λ b. set card q b) (c.page.ensures ∙ ap data_bytes c.half-low.ensures) in
-    let two : ◌≡◌ {A = Card} (g.S.PageStore.pages c.put-page-2.new.store) (set (set card q (data_bytes lows)) x.leaf (data_bytes highs)) = c.put-page-2.ensures ∙ ap₂ (λ (a : Card) b. set a x.leaf b) one (c.page-2.ensures ∙ ap data_bytes c.half-high.ensures) in
+    let one : ◌≡◌ {A = Card} (g.S.PageStore.pages c.put_page.new.store) (set card q (data_bytes lows)) = c.put_page.ensures ∙ ap (λ b. set card q b) (c.page.ensures ∙ ap data_bytes c.half-low.ensures) in
+    let two : ◌≡◌ {A = Card} (g.S.PageStore.pages c.put_page-2.new.store) (set (set card q (data_bytes lows)) x.leaf (data_bytes highs)) = c.put_page-2.ensures ∙ ap₂ (λ (a : Card) b. set a x.leaf b) one (c.page-2.ensures ∙ ap data_bytes c.half-high.ensures) in
     record {
       depth = n;
       deep = depth_of k s _ _ _ xs c.requires.some c.requires.on e.low e.high c.depth-depth.ensures.set;
       entry_is = entry_of k s c.entry-whole.result x.fork xs xs refl e.page e.count e.low e.high;
       used = refl;
-      written = c.put-page-3.ensures ∙ ap₂ (λ (a : Card) b. set a x.fork b) two (c.fork-page-fork.ensures ∙ ap₂ (λ (a b : Summary). encode k (directory_view n a b)) el eh);
+      written = c.put_page-3.ensures ∙ ap₂ (λ (a : Card) b. set a x.fork b) two (c.fork_page-fork.ensures ∙ ap₂ (λ (a b : Summary). encode k (directory_view n a b)) el eh);
     }

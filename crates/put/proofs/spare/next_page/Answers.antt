@@ -7,11 +7,11 @@ use Rattle.put.proofs.Chains.{never_strange}
 use Rattle.put.proofs.spare.next_page.Goals as goal
 
 -- no page of this number
-pub returns-in-default : goal.returns-in-default
-returns-in-default g c =
+pub returns-in_default : goal.returns-in_default
+returns-in_default g c =
     let k = g.K.PointKind.kind in
     record {
-      gives = (refl, λ next r. c.in-default.ensures.gives.1 (shown_there k g.met.K.PointKind.sound _ c.args.page (free_view next) r.bytes_are));
+      gives = (refl, λ next r. c.in_default.ensures.gives.1 (shown_there k g.met.K.PointKind.sound _ c.args.page (free_view next) r.bytes_are));
       keeps = c.load.ensures.keeps;
     }
 

@@ -25,11 +25,11 @@ pub loop-i-init : goal.loop-i-init
 loop-i-init g c = (refl, refl, omega arith, none low_of _, none high_of _)
 
 -- no such axis
-pub returns-in-default : goal.returns-in-default
-returns-in-default g c = (
+pub returns-in_default : goal.returns-in_default
+returns-in_default g c = (
   (λ q.
       let e = (ends_on g.K.PointKind.kind.axes c.args.query.now q).2 in
-      omega (arith, c.in-default.ensures, c.loop-i-test.true)),
+      omega (arith, c.in_default.ensures, c.loop-i-test.true)),
   refl,
 )
 
@@ -57,23 +57,23 @@ loop-i-preserved g c =
       ends_step high_of axs cs i c.loop-i.high _ c.ends-first.result.1 n t (omega arith) v.4 (to_z-of_z w64 c.ends-first.result.1 y) (λ d. e.high ∙ ap (λ m. high_end m (get_or cs i Any)) (to_z-of_z w64 c.in-Some.greatest b ∙ (f.1 d).1)),
     )
 
-pub returns-in-default-at : goal.returns-in-default-at
-returns-in-default-at g c = (
+pub returns-in_default-at : goal.returns-in_default-at
+returns-in_default-at g c = (
   (λ q.
       let axs = g.K.PointKind.kind.axes in
       let cs = c.args.query.now in
       let n : c.loop-i.i ≡ length cs = omega arith in
-      c.in-default-at.ensures (subst (OnAxes axs) (sym (ends_whole low_of axs cs c.loop-i.i c.loop-i.low n c.loop-i.invariant.3)) (ends_on axs cs q).0)),
+      c.in_default-at.ensures (subst (OnAxes axs) (sym (ends_whole low_of axs cs c.loop-i.i c.loop-i.low n c.loop-i.invariant.3)) (ends_on axs cs q).0)),
   refl,
 )
 
-pub returns-in-default-at-2 : goal.returns-in-default-at-2
-returns-in-default-at-2 g c = (
+pub returns-in_default-at-2 : goal.returns-in_default-at-2
+returns-in_default-at-2 g c = (
   (λ q.
       let axs = g.K.PointKind.kind.axes in
       let cs = c.args.query.now in
       let n : c.loop-i.i ≡ length cs = omega arith in
-      c.in-default-at-2.ensures (subst (OnAxes axs) (sym (ends_whole high_of axs cs c.loop-i.i c.loop-i.high n c.loop-i.invariant.4)) (ends_on axs cs q).1)),
+      c.in_default-at-2.ensures (subst (OnAxes axs) (sym (ends_whole high_of axs cs c.loop-i.i c.loop-i.high n c.loop-i.invariant.4)) (ends_on axs cs q).1)),
   refl,
 )
 

@@ -15,13 +15,13 @@ returns-in-Err g c = record {
 pub returns-in-Err-scan : goal.returns-in-Err-scan
 returns-in-Err-scan g c = record {
   lawful = λ set w. absurd (c.in-Err-scan.ensures.lawful set w [] refl);
-  always = inr (c.in-default.ensures, c.in-Err-scan.ensures.refused);
+  always = inr (c.in_default.ensures, c.in-Err-scan.ensures.refused);
   keeps = c.scan.ensures.keeps;
 }
 
 pub returns : goal.returns
 returns g c = record {
-  lawful = λ set w. answered_window g.K.PointKind.kind _ set c.args.window.now CountsFrom _ c.in-default.ensures (c.in-default-scan.ensures.lawful set w [] refl);
-  always = (c.in-default.ensures, tt);
+  lawful = λ set w. answered_window g.K.PointKind.kind _ set c.args.window.now CountsFrom _ c.in_default.ensures (c.in_default-scan.ensures.lawful set w [] refl);
+  always = (c.in_default.ensures, tt);
   keeps = c.scan.ensures.keeps;
 }

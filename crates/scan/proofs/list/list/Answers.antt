@@ -17,7 +17,7 @@ returns-in-Err g c = record {
 pub returns-in-Err-scan : goal.returns-in-Err-scan
 returns-in-Err-scan g c = record {
   lawful = λ set w. absurd (c.in-Err-scan.ensures.lawful set w c.args.buffer.now (listed_none c.args.skip c.args.buffer.now));
-  always = (inr (c.in-default.ensures, c.in-Err-scan.ensures.refused), inl c.in-Err-scan.ensures.refused);
+  always = (inr (c.in_default.ensures, c.in-Err-scan.ensures.refused), inl c.in-Err-scan.ensures.refused);
   keeps = c.scan.ensures.keeps;
 }
 
@@ -29,12 +29,12 @@ returns g c =
     record {
       lawful = λ set w.
           let v = subst (λ n. Listed n x.seen x.written c.args.buffer.now c.scan.new.buffer (windowed k c.args.window.now.low c.args.window.now.high set)) skip
-          (c.in-default-scan.ensures.lawful set w c.args.buffer.now (listed_none c.args.skip c.args.buffer.now)) in
-          (answered_window k _ set c.args.window.now (ListsFrom c.args.skip (length c.args.buffer.now)) _ c.in-default.ensures (v.given, v.all), v.shown);
+          (c.in_default-scan.ensures.lawful set w c.args.buffer.now (listed_none c.args.skip c.args.buffer.now)) in
+          (answered_window k _ set c.args.window.now (ListsFrom c.args.skip (length c.args.buffer.now)) _ c.in_default.ensures (v.given, v.all), v.shown);
       always = (
-        (c.in-default.ensures, tt),
+        (c.in_default.ensures, tt),
         subst (λ n. ListFair k n x.seen x.written c.args.window.now.low c.args.window.now.high c.args.buffer.now c.scan.new.buffer) skip
-            (c.in-default-scan.ensures.always c.args.buffer.now (fair_none k c.args.skip c.args.window.now.low c.args.window.now.high c.args.buffer.now)),
+            (c.in_default-scan.ensures.always c.args.buffer.now (fair_none k c.args.skip c.args.window.now.low c.args.window.now.high c.args.buffer.now)),
       );
       keeps = c.scan.ensures.keeps;
     }

@@ -14,12 +14,12 @@ use Rattle.scan.proofs.Walking.{when_true, when_false, cases_and, cases_map, som
 use Rattle.scan.proofs.walk.+walk.Goals as goal
 
 -- no further point is refused on a lawful card
-pub returns-in-default : goal.returns-in-default
-returns-in-default g t c =
+pub returns-in_default : goal.returns-in_default
+returns-in_default g t c =
     let k = g.K.PointKind.kind in
     let s = g.met.K.PointKind.sound in
     record {
-      lawful = λ ps u v before xs few met. c.in-default.ensures.lawful ps (below_of k s _ ps (summary k c.args.entry) c.args.above u v.reached) before c.args.buffer.now xs refl few met;
+      lawful = λ ps u v before xs few met. c.in_default.ensures.lawful ps (below_of k s _ ps (summary k c.args.entry) c.args.above u v.reached) before c.args.buffer.now xs refl few met;
       always = λ before fair. tt;
       refused = refl;
       same = c.passed.ensures.same;
@@ -43,15 +43,15 @@ returns-then-skip g t c =
     }
 
 -- the page is there, and a read is left
-pub returns-in-default-spend : goal.returns-in-default-spend
-returns-in-default-spend g t c =
+pub returns-in_default-spend : goal.returns-in_default-spend
+returns-in_default-spend g t c =
     let k = g.K.PointKind.kind in
     let s = g.met.K.PointKind.sound in
     record {
       lawful = λ ps u v before xs few met.
           let a = some_page u in
           let b = v.enough in
-          c.in-default-spend.ensures.gives.1 (reached_there k s _ ps (summary k c.args.entry) c.args.above u v.reached) (omega arith);
+          c.in_default-spend.ensures.gives.1 (reached_there k s _ ps (summary k c.args.entry) c.args.above u v.reached) (omega arith);
       always = λ before fair. tt;
       refused = refl;
       same = c.passed.ensures.same;
@@ -59,14 +59,14 @@ returns-in-default-spend g t c =
     }
 
 -- it is a page of the tree
-pub returns-in-default-read-node : goal.returns-in-default-read-node
-returns-in-default-read-node g t c =
+pub returns-in_default-read_node : goal.returns-in_default-read_node
+returns-in_default-read_node g t c =
     let k = g.K.PointKind.kind in
     let s = g.met.K.PointKind.sound in
     record {
       lawful = λ ps u v before xs few met.
           let rd = reached_reads k s _ ps (summary k c.args.entry) c.args.above u v.reached c.in-Ok-spend.bytes c.in-Ok-spend.ensures.gives.0 in
-          never_fault k s {X = Node g.row.K.Denot} u c.in-Ok-spend.bytes c.args.entry.page (NodeRead k c.in-Ok-spend.bytes) c.in-default-read-node.field-0 rd c.in-default-read-node.ensures;
+          never_fault k s {X = Node g.row.K.Denot} u c.in-Ok-spend.bytes c.args.entry.page (NodeRead k c.in-Ok-spend.bytes) c.in_default-read_node.field-0 rd c.in_default-read_node.ensures;
       always = λ before fair. tt;
       refused = refl;
       same = c.passed.ensures.same;
@@ -74,8 +74,8 @@ returns-in-default-read-node g t c =
     }
 
 -- a data page: its points
-pub returns-in-default-node : goal.returns-in-default-node
-returns-in-default-node g t c =
+pub returns-in_default-node : goal.returns-in_default-node
+returns-in_default-node g t c =
     let k = g.K.PointKind.kind in
     let s = g.met.K.PointKind.sound in
     let card = g.S.PageStore.pages c.args.store.now in
@@ -85,15 +85,15 @@ returns-in-default-node g t c =
       lawful = λ ps u v before xs few met.
           let e = summary k c.args.entry in
           let rd = reached_reads k s card ps e c.args.above u v.reached bytes c.in-Ok-spend.ensures.gives.0 in
-          let f = leafed k s card u bytes rd (subst (NodeRead k bytes) c.in-default-node.is c.in-Ok-read-node.ensures.1) in
+          let f = leafed k s card u bytes rd (subst (NodeRead k bytes) c.in_default-node.is c.in-Ok-read_node.ensures.1) in
           let same = (leaf_inv k (subst (λ y. TreeOf k ps (shape y)) f.is v.reached.stands.halved)).0 in
           let m = when_false c.in-Ok.skip _ _ c.if-skip.false (c.in-Ok.ensures.lawful ps (below_of k s card ps e c.args.above u v.reached) before c.args.buffer.now xs refl few met) in
           let spent : c.args.left.now ≤ c.spend.new.left + length (numbers u) = let a = some_page u in let b = c.in-Ok-spend.ensures.gives.1 in omega arith in
-          cases_and c.gather-page.result _ _
-          (c.gather-page.ensures.lawful ps (subst (λ ys. Reads k bytes (data_view (map k.coords ys))) (sym same) (subst (λ y. Reads k bytes (view_of k y)) f.is rd)) before xs few m) spent;
-      always = λ before fair. c.gather-page.ensures.always before (c.in-Ok.ensures.always before c.args.buffer.now refl fair);
-      refused = c.gather-page.ensures.refused;
-      same = c.gather-page.ensures.same ∙ c.passed.ensures.same;
+          cases_and c.gather_page.result _ _
+          (c.gather_page.ensures.lawful ps (subst (λ ys. Reads k bytes (data_view (map k.coords ys))) (sym same) (subst (λ y. Reads k bytes (view_of k y)) f.is rd)) before xs few m) spent;
+      always = λ before fair. c.gather_page.ensures.always before (c.in-Ok.ensures.always before c.args.buffer.now refl fair);
+      refused = c.gather_page.ensures.refused;
+      same = c.gather_page.ensures.same ∙ c.passed.ensures.same;
       keeps = c.spend.ensures.keeps;
     }
 
@@ -109,7 +109,7 @@ returns-then-fork-above g t c =
       lawful = λ ps u v before xs few met.
           let e = summary k c.args.entry in
           let rd = reached_reads k s card ps e c.args.above u v.reached bytes c.in-Ok-spend.ensures.gives.0 in
-          let f = forked k s card u bytes x.depth (summary k x.low) (summary k x.high) rd (subst (NodeRead k bytes) c.in-Directory.is c.in-Ok-read-node.ensures.1) in
+          let f = forked k s card u bytes x.depth (summary k x.low) (summary k x.high) rd (subst (NodeRead k bytes) c.in-Directory.is c.in-Ok-read_node.ensures.1) in
           let le : c.args.above ≤ x.depth = forked_deep k s card ps e c.args.above u v.reached x.depth (summary k x.low) (summary k x.high) f v.shallow in
           omega (arith, c.if-fork-above.true);
       always = λ before fair. tt;
@@ -119,8 +119,8 @@ returns-then-fork-above g t c =
     }
 
 -- the low half is not refused
-pub returns-in-default-walk : goal.returns-in-default-walk
-returns-in-default-walk g t c =
+pub returns-in_default-walk : goal.returns-in_default-walk
+returns-in_default-walk g t c =
     let k = g.K.PointKind.kind in
     let s = g.met.K.PointKind.sound in
     let card = g.S.PageStore.pages c.args.store.now in
@@ -131,10 +131,10 @@ returns-in-default-walk g t c =
       lawful = λ ps u v before xs few met.
           let e = summary k c.args.entry in
           let rd = reached_reads k s card ps e c.args.above u v.reached bytes c.in-Ok-spend.ensures.gives.0 in
-          let f = forked k s card u bytes x.depth (summary k x.low) (summary k x.high) rd (subst (NodeRead k bytes) c.in-Directory.is c.in-Ok-read-node.ensures.1) in
+          let f = forked k s card u bytes x.depth (summary k x.low) (summary k x.high) rd (subst (NodeRead k bytes) c.in-Directory.is c.in-Ok-read_node.ensures.1) in
           let m = when_false c.in-Ok.skip _ _ c.if-skip.false (c.in-Ok.ensures.lawful ps (below_of k s card ps e c.args.above u v.reached) before c.args.buffer.now xs refl few met) in
           let lo = low_walked k s card w c.requires ps u e c.args.above c.args.left.now v x.depth (summary k x.low) (summary k x.high) f c.spend.new.left c.in-Ok-spend.ensures.gives.1 in
-          c.in-default-walk.ensures.lawful _ f.l (walked_on k c.spend.ensures.keeps lo) before xs
+          c.in_default-walk.ensures.lawful _ f.l (walked_on k c.spend.ensures.keeps lo) before xs
           (low_few k s card w c.requires ps u e c.args.above c.args.left.now v x.depth (summary k x.low) (summary k x.high) f xs few) m;
       always = λ before fair. tt;
       refused = refl;
@@ -156,7 +156,7 @@ returns g t c =
       lawful = λ ps u v before xs few met.
           let e = summary k c.args.entry in
           let rd = reached_reads k s card ps e c.args.above u v.reached bytes c.in-Ok-spend.ensures.gives.0 in
-          let f = forked k s card u bytes x.depth (summary k x.low) (summary k x.high) rd (subst (NodeRead k bytes) c.in-Directory.is c.in-Ok-read-node.ensures.1) in
+          let f = forked k s card u bytes x.depth (summary k x.low) (summary k x.high) rd (subst (NodeRead k bytes) c.in-Directory.is c.in-Ok-read_node.ensures.1) in
           let m = when_false c.in-Ok.skip _ _ c.if-skip.false (c.in-Ok.ensures.lawful ps (below_of k s card ps e c.args.above u v.reached) before c.args.buffer.now xs refl few met) in
           let one = c.in-Ok-spend.ensures.gives.1 in
           let lo = low_walked k s card w c.requires ps u e c.args.above c.args.left.now v x.depth (summary k x.low) (summary k x.high) f c.spend.new.left one in

@@ -12,14 +12,14 @@ moved : {A B C : Type 0} (M : A → B → C → Type 0) {a a' : A} {b b' : B} {x
 moved M {a} {a'} {b} {b'} {xs} {ys} e f h m = subst (λ x. M x b' ys) (sym e) (subst (λ x. M a x ys) (sym f) (subst (M a b) h m))
 
 -- a page that is read has a point at each place
-pub returns-in-default : goal.returns-in-default
-returns-in-default g c =
+pub returns-in_default : goal.returns-in_default
+returns-in_default g c =
     let k = g.K.PointKind.kind in
     record {
       lawful = λ points rd before xs few met.
           let r = subst (λ x. Reads k x (data_view (map k.coords points))) (sym c.over-view.ensures) rd in
           let n = c.count-i-end.ensures (map k.coords points) r in
-          let m = c.in-default.ensures (map k.coords points) r in
+          let m = c.in_default.ensures (map k.coords points) r in
           omega (arith, c.loop-i-test.true);
       always = λ before fair. tt;
       refused = refl;
@@ -27,8 +27,8 @@ returns-in-default g c =
     }
 
 -- a point of the window is never refused
-pub returns-in-default-point : goal.returns-in-default-point
-returns-in-default-point g c =
+pub returns-in_default-point : goal.returns-in_default-point
+returns-in_default-point g c =
     let k = g.K.PointKind.kind in
     let s = g.met.K.PointKind.sound in
     let w = c.args.window.now in
@@ -37,7 +37,7 @@ returns-in-default-point g c =
     record {
       lawful = λ points rd before xs few met.
           let h = point_here k s points i p (c.in-Some.ensures (map k.coords points) (subst (λ x. Reads k x (data_view (map k.coords points))) (sym c.over-view.ensures) rd)) in
-          c.in-default-point.ensures.lawful before (xs ++ windowed k w.low w.high (take i points)) (step_few k s w c.requires.whole points i p h.0 h.1 c.if-holds.ensures xs few) (c.loop-i.invariant.0 points rd before xs few met);
+          c.in_default-point.ensures.lawful before (xs ++ windowed k w.low w.high (take i points)) (step_few k s w c.requires.whole points i p h.0 h.1 c.if-holds.ensures xs few) (c.loop-i.invariant.0 points rd before xs few met);
       always = λ before fair. tt;
       refused = refl;
       same = c.point-then-holds.ensures.same ∙ c.loop-i.invariant.2;
@@ -51,7 +51,7 @@ loop-i-preserved g c =
     let i = c.loop-i.i in
     let p = c.in-Some.p in
     let at = λ (ps : List Point) (rd : Reads k c.args.bytes.now (data_view ps)). c.in-Some.ensures ps (subst (λ x. Reads k x (data_view ps)) (sym c.over-view.ensures) rd) in
-    let on = point_on k s c.args.bytes.now i p c.requires.data-page at in (
+    let on = point_on k s c.args.bytes.now i p c.requires.data_page at in (
       (λ points rd before xs few met.
           let h = point_here k s points i p (at (map k.coords points) rd) in
           let now = c.loop-i.invariant.0 points rd before xs few met in

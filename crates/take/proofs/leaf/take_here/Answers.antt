@@ -43,8 +43,8 @@ returns g c =
           let is = c.in-Some.ensures.tells ps r in
           let left = c.without-rest.ensures ∙ ap (without_point C p) is in
           let n = ap length left in
-          leaf_left k card ps p q c.entry.result (g.S.PageStore.pages c.put-page.new.store) (ap (live C p) (sym is) ∙ sym c.holds.ensures ∙ c.if-not-holds.false) (omega (arith, c.if-count-eq0.false, c.count.ensures)) c.requires.there
+          leaf_left k card ps p q c.entry.result (g.S.PageStore.pages c.put_page.new.store) (ap (live C p) (sym is) ∙ sym c.holds.ensures ∙ c.if-not-holds.false) (omega (arith, c.if-count-eq0.false, c.count.ensures)) c.requires.there
           (entry_of k c.entry.result q (listed c.without-rest.result) (without_point C p ps) left c.entry.ensures.page c.entry.ensures.count c.entry.ensures.low c.entry.ensures.high)
-          (c.put-page.ensures ∙ ap (set card q) (c.page.ensures ∙ ap (λ xs. encode k (data_view (map k.coords xs))) left));
-      always = (ap length c.put-page.ensures ∙ length-set card q _, tt);
+          (c.put_page.ensures ∙ ap (set card q) (c.page.ensures ∙ ap (λ xs. encode k (data_view (map k.coords xs))) left));
+      always = (ap length c.put_page.ensures ∙ length-set card q _, tt);
     }

@@ -14,25 +14,25 @@ use Rattle.take.proofs.Ups.{own_told, other_told, live_there, both_fit, pair_gon
 use Rattle.take.proofs.pair.take_pair.Goals as goal
 
 -- the point's own page is a data page
-pub returns-in-default : goal.returns-in-default
-returns-in-default g c =
+pub returns-in_default : goal.returns-in_default
+returns-in_default g c =
     let k = g.K.PointKind.kind in
     let card = g.S.PageStore.pages c.args.store.now in
     record {
       lawful = λ ps above q l h d few. absurd (own_told k g.met.K.PointKind.sound card ps c.args.at.now above c.args.fork.now c.args.bit c.args.p.now q l h d few c.sides-own.result.0 c.sides-own.result.1 c.sides-own.ensures.own_val c.sides-own.ensures.other
-          (λ zs. ⊥) c.in-default.ensures.tells);
-      always = (c.points-at.ensures.keeps, inl refl);
+          (λ zs. ⊥) c.in_default.ensures.tells);
+      always = (c.points_at.ensures.keeps, inl refl);
     }
 
 -- and so is the other page
-pub returns-in-default-points-at : goal.returns-in-default-points-at
-returns-in-default-points-at g c =
+pub returns-in_default-points_at : goal.returns-in_default-points_at
+returns-in_default-points_at g c =
     let k = g.K.PointKind.kind in
     let card = g.S.PageStore.pages c.args.store.now in
     record {
       lawful = λ ps above q l h d few. absurd (other_told k g.met.K.PointKind.sound card ps c.args.at.now above c.args.fork.now c.args.bit c.args.p.now q l h d few c.sides-own.result.0 c.sides-own.result.1 c.sides-own.ensures.own_val c.sides-own.ensures.other
-          (λ zs. ⊥) _ c.points-at.ensures.keeps c.in-default-points-at.ensures.tells);
-      always = (c.points-at-2.ensures.keeps ∙ c.points-at.ensures.keeps, inl refl);
+          (λ zs. ⊥) _ c.points_at.ensures.keeps c.in_default-points_at.ensures.tells);
+      always = (c.points_at-2.ensures.keeps ∙ c.points_at.ensures.keeps, inl refl);
     }
 
 -- the point is not there
@@ -52,7 +52,7 @@ returns-then-not-holds g c =
       lawful = λ ps above q l h d few.
           let is = own_told k s card ps e above x bit p q l h d few own other sides.own_val sides.other (λ zs. listed c.in-Ok.points ≡ zs) c.in-Ok.ensures.tells in
           (sym (live_there k s card ps e above x bit p q l h d few own other sides.own_val sides.other) ∙ ap (live (code_of k) p) (sym is) ∙ sym c.holds.ensures ∙ c.if-not-holds.true, refl);
-      always = (c.points-at-2.ensures.keeps ∙ c.points-at.ensures.keeps, inr refl);
+      always = (c.points_at-2.ensures.keeps ∙ c.points_at.ensures.keeps, inr refl);
     }
 
 -- its page had no other point
@@ -68,7 +68,7 @@ returns-then-count-eq0 g c =
     let own = c.sides-own.result.0 in
     let other = c.sides-own.result.1 in
     let sides = c.sides-own.ensures in
-    let keeps = c.points-at-2.ensures.keeps ∙ c.points-at.ensures.keeps in
+    let keeps = c.points_at-2.ensures.keeps ∙ c.points_at.ensures.keeps in
     record {
       lawful = λ ps above q l h d few.
           let is = own_told k s card ps e above x bit p q l h d few own other sides.own_val sides.other (λ zs. listed c.in-Ok.points ≡ zs) c.in-Ok.ensures.tells in
@@ -78,12 +78,12 @@ returns-then-count-eq0 g c =
       always = (ap length keeps, (c.requires.there, (c.in-Ok.ensures.sane.0, tt)));
     }
 
-pub overflow-add-count : goal.overflow-add-count
-overflow-add-count g c =
+pub overflow_add-count : goal.overflow_add-count
+overflow_add-count g c =
     let a = few_left (code_of g.K.PointKind.kind) c.args.p.now (listed c.in-Ok.points) in
     let b = ap length c.without-rest.ensures in
     let m = c.in-Ok.ensures.sane.2 in
-    let n = c.in-Ok-points-at.ensures.sane.2 in
+    let n = c.in-Ok-points_at.ensures.sane.2 in
     let small = g.met.K.PointKind.sound.small in
     record { fits = omega (arith, c.count-2.ensures, c.count-3.ensures) }
 
@@ -103,22 +103,22 @@ returns-then-count-capacity g c =
     record {
       lawful = λ ps above q l h d few.
           let is = own_told k s card ps e above x bit p q l h d few own other sides.own_val sides.other (λ zs. listed c.in-Ok.points ≡ zs) c.in-Ok.ensures.tells in
-          let is' = other_told k s card ps e above x bit p q l h d few own other sides.own_val sides.other (λ zs. listed c.in-Ok-points-at.beside ≡ zs) _ c.points-at.ensures.keeps c.in-Ok-points-at.ensures.tells in
+          let is' = other_told k s card ps e above x bit p q l h d few own other sides.own_val sides.other (λ zs. listed c.in-Ok-points_at.beside ≡ zs) _ c.points_at.ensures.keeps c.in-Ok-points_at.ensures.tells in
           let fit = both_fit k s card ps e above x bit p q l h d few own other sides.own_val sides.other (ap (live (code_of k) p) (sym is) ∙ sym c.holds.ensures ∙ c.if-not-holds.false) in
           let a = ap length (c.without-rest.ensures ∙ ap (without_point (code_of k) p) is) in
           let b = ap length is' in
           absurd (omega (arith, c.count-2.ensures, c.count-3.ensures, c.capacity.ensures, c.if-count-capacity.true));
-      always = (c.points-at-2.ensures.keeps ∙ c.points-at.ensures.keeps, inl refl);
+      always = (c.points_at-2.ensures.keeps ∙ c.points_at.ensures.keeps, inl refl);
     }
 
 pub page-requires : goal.page-requires
 page-requires g c =
-    let a = ap length c.in-order-all.ensures ∙ chosen_length c.args.bit (listed c.without-rest.result) (listed c.in-Ok-points-at.beside) in
+    let a = ap length c.in_order-all.ensures ∙ chosen_length c.args.bit (listed c.without-rest.result) (listed c.in-Ok-points_at.beside) in
     omega (arith, c.count-2.ensures, c.count-3.ensures, c.capacity.ensures, c.if-count-capacity.false)
 
 pub entry-requires : goal.entry-requires
 entry-requires g c =
-    let a = ap length c.in-order-all.ensures ∙ chosen_length c.args.bit (listed c.without-rest.result) (listed c.in-Ok-points-at.beside) in
+    let a = ap length c.in_order-all.ensures ∙ chosen_length c.args.bit (listed c.without-rest.result) (listed c.in-Ok-points_at.beside) in
     omega (arith, c.count.ensures, c.if-count-eq0.false)
 
 -- both become one page
@@ -134,18 +134,18 @@ returns g c =
     let own = c.sides-own.result.0 in
     let other = c.sides-own.result.1 in
     let sides = c.sides-own.ensures in
-    let keeps = c.points-at-2.ensures.keeps ∙ c.points-at.ensures.keeps in
-    let xs = listed c.in-order-all.result in
-    let written = c.put-page.ensures ∙ ap₂ (λ (a : Card) (b : List ℕ). set a own.page b) keeps c.page.ensures in
+    let keeps = c.points_at-2.ensures.keeps ∙ c.points_at.ensures.keeps in
+    let xs = listed c.in_order-all.result in
+    let written = c.put_page.ensures ∙ ap₂ (λ (a : Card) (b : List ℕ). set a own.page b) keeps c.page.ensures in
     record {
       lawful = λ ps above q l h d few.
           let is = own_told k s card ps e above x bit p q l h d few own other sides.own_val sides.other (λ zs. listed c.in-Ok.points ≡ zs) c.in-Ok.ensures.tells in
-          let is' = other_told k s card ps e above x bit p q l h d few own other sides.own_val sides.other (λ zs. listed c.in-Ok-points-at.beside ≡ zs) _ c.points-at.ensures.keeps c.in-Ok-points-at.ensures.tells in
+          let is' = other_told k s card ps e above x bit p q l h d few own other sides.own_val sides.other (λ zs. listed c.in-Ok-points_at.beside ≡ zs) _ c.points_at.ensures.keeps c.in-Ok-points_at.ensures.tells in
           let left = c.without-rest.ensures ∙ ap (without_point (code_of k) p) is in
           let n = ap length left in
-          pair_merged k s card ps e above x bit p q l h d few own other sides.own_val sides.other c.entry.result xs (g.S.PageStore.pages c.put-page.new.store)
-          (c.in-order-all.ensures ∙ ap₂ (λ (us vs : List g.row.K.Denot). chosen bit (us ++ vs) (vs ++ us)) left is')
+          pair_merged k s card ps e above x bit p q l h d few own other sides.own_val sides.other c.entry.result xs (g.S.PageStore.pages c.put_page.new.store)
+          (c.in_order-all.ensures ∙ ap₂ (λ (us vs : List g.row.K.Denot). chosen bit (us ++ vs) (vs ++ us)) left is')
           (ap (live (code_of k) p) (sym is) ∙ sym c.holds.ensures ∙ c.if-not-holds.false) (omega (arith, c.count.ensures, c.if-count-eq0.false))
           (entry_of k c.entry.result own.page xs xs refl c.entry.ensures.page c.entry.ensures.count c.entry.ensures.low c.entry.ensures.high) written;
-      always = (ap length written ∙ length-set card own.page _, (c.requires.there, (subst (λ a. other.page < length a) c.points-at.ensures.keeps c.in-Ok-points-at.ensures.sane.0, tt)));
+      always = (ap length written ∙ length-set card own.page _, (c.requires.there, (subst (λ a. other.page < length a) c.points_at.ensures.keeps c.in-Ok-points_at.ensures.sane.0, tt)));
     }

@@ -6,14 +6,14 @@ use Rattle.zorder.proofs.Weaving.{skipped, taken, bit_fits, turns_end}
 use Rattle.zorder.proofs.weave.round.Goals as goal
 use Rattle.zorder.proofs.weave.round.Goals.{then-done-width, else-done-width}
 
-pub overflow-mul-woven : goal.overflow-mul-woven
-overflow-mul-woven c = omega (arith, bit_fits c.args.done c.args.widths.now c.args.values.now c.loop-i.i c.loop-i-test.true c.requires.same c.loop-i.woven _ c.if-done-width.true c.loop-i.invariant c.requires.fits)
+pub overflow_mul-woven : goal.overflow_mul-woven
+overflow_mul-woven c = omega (arith, bit_fits c.args.done c.args.widths.now c.args.values.now c.loop-i.i c.loop-i-test.true c.requires.same c.loop-i.woven _ c.if-done-width.true c.loop-i.invariant c.requires.fits)
 
-pub overflow-shr-woven : goal.overflow-shr-woven
-overflow-shr-woven c = omega (arith, All-get_or (λ k. k ≤ 32) c.args.widths.now c.loop-i.i 0 c.loop-i-test.true c.requires.narrow)
+pub overflow_shr-woven : goal.overflow_shr-woven
+overflow_shr-woven c = omega (arith, All-get_or (λ k. k ≤ 32) c.args.widths.now c.loop-i.i 0 c.loop-i-test.true c.requires.narrow)
 
-pub overflow-add-woven : goal.overflow-add-woven
-overflow-add-woven c = omega (arith, bit_fits c.args.done c.args.widths.now c.args.values.now c.loop-i.i c.loop-i-test.true c.requires.same c.loop-i.woven _ c.if-done-width.true c.loop-i.invariant c.requires.fits)
+pub overflow_add-woven : goal.overflow_add-woven
+overflow_add-woven c = omega (arith, bit_fits c.args.done c.args.widths.now c.args.values.now c.loop-i.i c.loop-i-test.true c.requires.same c.loop-i.woven _ c.if-done-width.true c.loop-i.invariant c.requires.fits)
 
 pub loop-i-preserved : goal.loop-i-preserved
 loop-i-preserved c =

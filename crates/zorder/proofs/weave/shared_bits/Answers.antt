@@ -5,8 +5,8 @@ use Rattle.zorder.specs.Sharing.{Shares}
 use Rattle.zorder.proofs.Shared.{shares_zeros, zeros_wide}
 use Rattle.zorder.proofs.weave.shared_bits.Goals as goal
 
-pub overflow-sub-result-2 : goal.overflow-sub-result-2
-overflow-sub-result-2 c = omega (arith, zeros_wide 64 c.args.width (bit_xor c.args.a c.args.b) (omega arith) (xor_lt c.args.width c.args.a c.args.b c.requires.a-fits c.requires.b-fits))
+pub overflow_sub-result-2 : goal.overflow_sub-result-2
+overflow_sub-result-2 c = omega (arith, zeros_wide 64 c.args.width (bit_xor c.args.a c.args.b) (omega arith) (xor_lt c.args.width c.args.a c.args.b c.requires.a_fits c.requires.b_fits))
 
 pub returns : goal.returns
 returns c =

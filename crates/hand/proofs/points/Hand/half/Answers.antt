@@ -10,7 +10,7 @@ use Rattle.hand.proofs.points.Hand.half.Goals as goal
 
 pub bit-requires : goal.bit-requires
 bit-requires g c = record {
-  on = item_has (On g.K.PointKind.kind) c.args.self.now c.loop-i.i c.point-point.result c.loop-i-test.true c.point-point.ensures c.requires.all-on;
+  on = item_has (On g.K.PointKind.kind) c.args.self.now c.loop-i.i c.point-point.result c.loop-i-test.true c.point-point.ensures c.requires.all_on;
   below = c.requires.shallow;
 }
 

@@ -6,7 +6,7 @@ use Rattle.hand.proofs.Steps.{item_has, left_is, none_left, live_here, live_on}
 use Rattle.hand.proofs.points.Hand.holds.Goals as goal
 
 pub code-requires : goal.code-requires
-code-requires g c = item_has (On g.K.PointKind.kind) c.args.self.now c.loop-i.i c.point-point.result c.loop-i-test.true c.point-point.ensures c.requires.all-on
+code-requires g c = item_has (On g.K.PointKind.kind) c.args.self.now c.loop-i.i c.point-point.result c.loop-i-test.true c.point-point.ensures c.requires.all_on
 
 pub returns-then-sought-code : goal.returns-then-sought-code
 returns-then-sought-code g c =

@@ -9,12 +9,12 @@ use Rattle.hand.proofs.points.Hand.of_page.Given as given
 use Rattle.hand.proofs.points.Hand.of_page.Goals as goal
 
 -- a data page is read
-pub returns-in-default : goal.returns-in-default
-returns-in-default g c =
+pub returns-in_default : goal.returns-in_default
+returns-in_default g c =
     let k = g.K.PointKind.kind in
     let bs = c.args.bytes.now in
     record {
-      tells = λ ps r. never_refused k g.met.K.PointKind.sound bs {X = DataView g.row.K.Denot} _ 0 (λ v. (v.bytes.now ≡ bs) × IsData k bs) c.in-default.field-0 r c.in-default.ensures;
+      tells = λ ps r. never_refused k g.met.K.PointKind.sound bs {X = DataView g.row.K.Denot} _ 0 (λ v. (v.bytes.now ≡ bs) × IsData k bs) c.in_default.field-0 r c.in_default.ensures;
       sane = tt;
     }
 

@@ -21,8 +21,8 @@ loop-i-init g c =
 fits : (g : given.Over) (i r : ℕ) → i < g.K.PointKind.kind.capacity → r ≡ size_of g.K.PointKind.kind → (2 + i * r) + r ≤ 64
 fits g i r lt e = let k = g.K.PointKind.kind in let fit = g.met.K.PointKind.sound.data_fits in within_page i k.capacity k.capacity (size_of k) r lt (omega arith) e (omega arith)
 
-pub slice-bounds-page-end : goal.slice-bounds-page-end
-slice-bounds-page-end g c =
+pub slice_bounds-page-end : goal.slice_bounds-page-end
+slice_bounds-page-end g c =
     let n = count_is c.args.self.now in
     let w = fits g c.loop-i.i c.size-size.result (omega (arith, c.loop-i-test.true, c.requires)) c.size-size.ensures in
     omega (arith, w, c.loop-i.invariant.0)

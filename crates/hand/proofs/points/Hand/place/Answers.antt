@@ -7,7 +7,7 @@ use Rattle.hand.proofs.Steps.{count_is, item_has, left_is, front_is, none_left, 
 use Rattle.hand.proofs.points.Hand.place.Goals as goal
 
 pub code-requires : goal.code-requires
-code-requires g c = item_has (On g.K.PointKind.kind) c.args.self.now c.loop-i.i c.point-point.result c.loop-i-test.true c.point-point.ensures c.requires.all-on
+code-requires g c = item_has (On g.K.PointKind.kind) c.args.self.now c.loop-i.i c.point-point.result c.loop-i-test.true c.point-point.ensures c.requires.all_on
 
 pub returns-then-code : goal.returns-then-code
 returns-then-code g c =

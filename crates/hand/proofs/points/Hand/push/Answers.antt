@@ -11,8 +11,8 @@ at-row-requires g c = let n = count_is c.args.self.now in omega (arith, c.requir
 pub put-requires-2 : goal.put-requires-2
 put-requires-2 g c = let n = count_is c.args.self.now in omega (arith, c.requires)
 
-pub invariant-of-self : goal.invariant-of-self
-invariant-of-self g c =
+pub invariant_of-self : goal.invariant_of-self
+invariant_of-self g c =
     let n = count_is c.args.self.now in
     let le : c.args.self.now.count + 1 ≤ 16 = omega (arith, c.requires) in
     (le, tt)

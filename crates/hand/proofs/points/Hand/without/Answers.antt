@@ -8,7 +8,7 @@ use Rattle.hand.proofs.points.Hand.without.Goals.{then-gone-code, else-gone-code
 use Rattle.hand.proofs.points.Hand.without.Goals as goal
 
 pub code-requires : goal.code-requires
-code-requires g c = item_has (On g.K.PointKind.kind) c.args.self.now c.loop-i.i c.point-point.result c.loop-i-test.true c.point-point.ensures c.requires.all-on
+code-requires g c = item_has (On g.K.PointKind.kind) c.args.self.now c.loop-i.i c.point-point.result c.loop-i-test.true c.point-point.ensures c.requires.all_on
 
 pub loop-i-preserved : goal.loop-i-preserved
 loop-i-preserved g c =

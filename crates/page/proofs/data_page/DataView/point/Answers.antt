@@ -19,4 +19,4 @@ returns g c ps r =
     let bs = c.args.self.now.bytes.now in
     let q = count_is k bs ps r in
     let lt : c.args.place < length ps = omega (arith, q, c.if-place-bytes.false) in
-    place_read k g.met.K.PointKind.sound bs ps c.args.place _ c.point-at.result r lt refl c.point-at.ensures
+    place_read k g.met.K.PointKind.sound bs ps c.args.place _ c.point_at.result r lt refl c.point_at.ensures

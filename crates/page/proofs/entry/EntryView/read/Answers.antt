@@ -12,16 +12,16 @@ use Rattle.page.proofs.entry.EntryView.read.Goals as goal
 none : (g : given.Over) (bs : List ℕ) → EntryCause g.K.PointKind.kind bs → EntryRead g.K.PointKind.kind bs None
 none g bs w = (entry_wrong g.K.PointKind.kind g.met.K.PointKind.sound bs w, w)
 
-pub returns-in-default : goal.returns-in-default
-returns-in-default g c =
+pub returns-in_default : goal.returns-in_default
+returns-in_default g c =
     let bs = c.args.self.now.bytes.now in
-    let reads = none g bs (low_off c.in-default.ensures.reads) in
+    let reads = none g bs (low_off c.in_default.ensures.reads) in
     record { reads = reads; entry = entry_agrees g.K.PointKind.kind g.met.K.PointKind.sound bs None reads }
 
-pub returns-in-default-high : goal.returns-in-default-high
-returns-in-default-high g c =
+pub returns-in_default-high : goal.returns-in_default-high
+returns-in_default-high g c =
     let bs = c.args.self.now.bytes.now in
-    let reads = none g bs (high_off c.in-default-high.ensures.reads) in
+    let reads = none g bs (high_off c.in_default-high.ensures.reads) in
     record { reads = reads; entry = entry_agrees g.K.PointKind.kind g.met.K.PointKind.sound bs None reads }
 
 pub returns-then-not-under : goal.returns-then-not-under

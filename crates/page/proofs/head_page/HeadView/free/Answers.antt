@@ -7,7 +7,7 @@ pub returns : goal.returns
 returns g c =
     let k = g.K.PointKind.kind in
     let bs = c.args.self.now.bytes.now in
-    let r = c.two-bytes.ensures in
+    let r = c.two_bytes.ensures in
     record {
       form = r.form;
       fits = r.fits;

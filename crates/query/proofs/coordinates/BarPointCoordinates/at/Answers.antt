@@ -5,18 +5,18 @@ use Rattle.kinds.specs.Bar.{bar_axes}
 use Rattle.query.proofs.Ends.{spelled}
 use Rattle.query.proofs.coordinates.BarPointCoordinates.at.Goals as goal
 
-pub returns-then-on-axes : goal.returns-then-on-axes
-returns-then-on-axes c =
+pub returns-then-on_axes : goal.returns-then-on_axes
+returns-then-on_axes c =
     let n : length c.args.coordinates.now ≡ 3 = omega arith in
     let f = spelled 3 c.args.coordinates.now n in
-    (c.if-on-axes.ensures, grind (arith, ints, f))
+    (c.if-on_axes.ensures, grind (arith, ints, f))
 
 -- the coordinates are those of the point that was made of them
-shown : (c : goal.Else-on-axes) → ◌≡◌ {A = List ℤ} (pos c.in-Ok.course ∷ (pos c.in-Ok-try-from.bar ∷ (to_z w16 (of_z w16 c.in-Ok-try-from-2.shog) ∷ []))) c.args.coordinates.now
+shown : (c : goal.Else-on_axes) → ◌≡◌ {A = List ℤ} (pos c.in-Ok.course ∷ (pos c.in-Ok-try_from.bar ∷ (to_z w16 (of_z w16 c.in-Ok-try_from-2.shog) ∷ []))) c.args.coordinates.now
 shown c =
     let n : length c.args.coordinates.now ≡ 3 = omega arith in
     let f = spelled 3 c.args.coordinates.now n in
     grind (arith, ints, f)
 
-pub returns-else-on-axes : goal.returns-else-on-axes
-returns-else-on-axes c on = c.if-on-axes.ensures (subst (OnAxes bar_axes) (sym (shown c)) on)
+pub returns-else-on_axes : goal.returns-else-on_axes
+returns-else-on_axes c on = c.if-on_axes.ensures (subst (OnAxes bar_axes) (sym (shown c)) on)

@@ -5,9 +5,9 @@ use Rattle.scan.proofs.list.ListerGather.point.Goals as goal
 use Rattle.scan.proofs.list.ListerGather.point.Goals.{then-self+then-at-buffer, else-self, else-self-via-then-self+else-at-buffer, else-self-via-else-self}
 
 -- the sum does not overflow on a lawful card
-pub returns-in-default : goal.returns-in-default
-returns-in-default g c = record {
-  lawful = λ before xs few v. let n = length-append xs (c.args.p.now ∷ []) in let a = v.all in c.in-default.ensures (omega arith);
+pub returns-in_default : goal.returns-in_default
+returns-in_default g c = record {
+  lawful = λ before xs few v. let n = length-append xs (c.args.p.now ∷ []) in let a = v.all in c.in_default.ensures (omega arith);
   always = λ low high before on inside fair. tt;
   refused = refl;
   same = refl;

@@ -4,9 +4,9 @@ use Rattle.scan.proofs.list.ListerGather.unread.Goals as goal
 use Rattle.scan.proofs.list.ListerGather.unread.Goals.{else-seen-self-via-then-seen-self+else-self-places, else-seen-self-via-else-seen-self}
 
 -- the sum does not overflow on a lawful card
-pub returns-in-default : goal.returns-in-default
-returns-in-default g c = record {
-  lawful = λ before buffer xs ys long count few v. let n = length-append xs ys in let a = v.all in c.in-default.ensures (omega arith);
+pub returns-in_default : goal.returns-in_default
+returns-in_default g c = record {
+  lawful = λ before buffer xs ys long count few v. let n = length-append xs ys in let a = v.all in c.in_default.ensures (omega arith);
   always = λ low high before buffer long fair. tt;
   refused = refl;
   same = refl;

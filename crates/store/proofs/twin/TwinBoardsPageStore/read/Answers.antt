@@ -2,17 +2,17 @@ use Rattle.std.proofs.Common.{◌≡◌, ◌+◌, ◌-◌, ◌*◌, ◌/◌, ◌
 use Rattle.store.proofs.Twins.{length_twins, twin_read}
 use Rattle.store.proofs.twin.TwinBoardsPageStore.read.Goals as goal
 
-pub overflow-mul-at : goal.overflow-mul-at
-overflow-mul-at c = search (rules, length_twins)
+pub overflow_mul-at : goal.overflow_mul-at
+overflow_mul-at c = search (rules, length_twins)
 
-pub overflow-add-end : goal.overflow-add-end
-overflow-add-end c = search (rules, length_twins)
+pub overflow_add-end : goal.overflow_add-end
+overflow_add-end c = search (rules, length_twins)
 
-pub slice-bounds-gather-end : goal.slice-bounds-gather-end
-slice-bounds-gather-end c = search (rules, length_twins)
+pub slice_bounds-gather-end : goal.slice_bounds-gather-end
+slice_bounds-gather-end c = search (rules, length_twins)
 
-pub slice-bounds-gather-end-2 : goal.slice-bounds-gather-end-2
-slice-bounds-gather-end-2 c = search (rules, length_twins)
+pub slice_bounds-gather-end-2 : goal.slice_bounds-gather-end-2
+slice_bounds-gather-end-2 c = search (rules, length_twins)
 
 pub returns : goal.returns
 returns c =
@@ -22,7 +22,7 @@ returns c =
     record {
       gives = (
         search (rules, length_twins),
-        c.in-ok-admit.ensures.gives.1,
+        c.in_ok-admit.ensures.gives.1,
         c.gather.ensures.gives ∙ twin_read es os c.deref.result.now c.deref-2.result.now _ c.args.page (omega arith) c.deref.ensures.value c.deref-2.ensures.value h,
       );
       keeps = refl;

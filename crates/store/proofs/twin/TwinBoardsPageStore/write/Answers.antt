@@ -4,17 +4,17 @@ use Rattle.store.proofs.Rows.{rewritten}
 use Rattle.store.proofs.Twins.{length_twins, twin_written, twin_rest_kept}
 use Rattle.store.proofs.twin.TwinBoardsPageStore.write.Goals as goal
 
-pub overflow-mul-at : goal.overflow-mul-at
-overflow-mul-at c = search (rules, length_twins)
+pub overflow_mul-at : goal.overflow_mul-at
+overflow_mul-at c = search (rules, length_twins)
 
-pub overflow-add-end : goal.overflow-add-end
-overflow-add-end c = search (rules, length_twins)
+pub overflow_add-end : goal.overflow_add-end
+overflow_add-end c = search (rules, length_twins)
 
-pub slice-bounds-scatter-end : goal.slice-bounds-scatter-end
-slice-bounds-scatter-end c = search (rules, length_twins)
+pub slice_bounds-scatter-end : goal.slice_bounds-scatter-end
+slice_bounds-scatter-end c = search (rules, length_twins)
 
-pub slice-bounds-scatter-end-2 : goal.slice-bounds-scatter-end-2
-slice-bounds-scatter-end-2 c = search (rules, length_twins)
+pub slice_bounds-scatter-end-2 : goal.slice_bounds-scatter-end-2
+slice_bounds-scatter-end-2 c = search (rules, length_twins)
 
 pub returns : goal.returns
 returns c =
@@ -30,9 +30,9 @@ returns c =
     let width : 32 * p + 32 - 32 * p ≡ 32 = omega arith in
     let a : length e ≡ 32 = search rules in
     let b : length o ≡ 32 = search rules in
-    let x = rewritten 32 p _ _ c.args.self.now.even.items es _ _ e (sym c.args.self.now.even.ok.0) width c.deref-mut.ensures.value refl room a in
-    let y = rewritten 32 p _ _ c.args.self.now.odd.items os _ _ o (sym c.args.self.now.odd.ok.0) width c.deref-mut-2.ensures.value refl room' b in
+    let x = rewritten 32 p _ _ c.args.self.now.even.items es _ _ e (sym c.args.self.now.even.ok.0) width c.deref_mut.ensures.value refl room a in
+    let y = rewritten 32 p _ _ c.args.self.now.odd.items os _ _ o (sym c.args.self.now.odd.ok.0) width c.deref_mut-2.ensures.value refl room' b in
     record {
-      gives = (fit, c.in-ok-admit.ensures.gives.1, twin_written es os _ _ e o c.args.buf.now p x y h a b c.scatter.ensures.gives);
+      gives = (fit, c.in_ok-admit.ensures.gives.1, twin_written es os _ _ e o c.args.buf.now p x y h a b c.scatter.ensures.gives);
       rest = twin_rest_kept es os _ _ e o p x y h a b;
     }
