@@ -17,7 +17,7 @@ returns-in_default g c = record {
   lawful = λ ps t st e.
       let k = g.K.PointKind.kind in
       let w = c.loop-turn.invariant.1 ps t st e in
-      let there = turn_there k g.met.K.PointKind.sound _ c.args.p.now ps c.loop-turn.page c.loop-turn.-turn w in
+      let there = turn_there k g.met.K.PointKind.sound _ c.args.p.now ps c.loop-turn.page c.loop-turn._turn w in
       absurd (c.in_default.ensures.gives.1 (subst (λ x. c.loop-turn.page < length x) (sym c.loop-turn.invariant.0) there));
   always = refl;
   keeps = c.load.ensures.keeps ∙ c.loop-turn.invariant.0;
@@ -30,7 +30,7 @@ returns-in_default-read_node g c = record {
       let k = g.K.PointKind.kind in
       let s = g.met.K.PointKind.sound in
       let w = c.loop-turn.invariant.1 ps t st e in
-      let rd = turn_bytes k s _ c.args.p.now ps c.loop-turn.page c.loop-turn.-turn w _ c.in-Ok.bytes c.loop-turn.invariant.0 c.in-Ok.ensures.gives.1 in
+      let rd = turn_bytes k s _ c.args.p.now ps c.loop-turn.page c.loop-turn._turn w _ c.in-Ok.bytes c.loop-turn.invariant.0 c.in-Ok.ensures.gives.1 in
       absurd (never_fault k s {X = Node g.row.K.Denot} w.tree c.in-Ok.bytes c.loop-turn.page (NodeRead k c.in-Ok.bytes) c.in_default-read_node.field-0 rd c.in_default-read_node.ensures);
   always = refl;
   keeps = c.load.ensures.keeps ∙ c.loop-turn.invariant.0;
@@ -44,7 +44,7 @@ returns-in_default-node g c = record {
       let s = g.met.K.PointKind.sound in
       let p = c.args.p.now in
       let w = c.loop-turn.invariant.1 ps t st e in
-      let rd = turn_bytes k s _ p ps c.loop-turn.page c.loop-turn.-turn w _ c.in-Ok.bytes c.loop-turn.invariant.0 c.in-Ok.ensures.gives.1 in
+      let rd = turn_bytes k s _ p ps c.loop-turn.page c.loop-turn._turn w _ c.in-Ok.bytes c.loop-turn.invariant.0 c.in-Ok.ensures.gives.1 in
       ap Ok (data_answer k s _ w.qs w.tree p c.in-Ok.bytes c.holds.result w.stands c.requires rd (subst (NodeRead k c.in-Ok.bytes) c.in_default-node.is c.in-Ok-read_node.ensures.1) (λ xs r. c.holds.ensures xs (subst (λ x. Reads k x (data_view xs)) (sym c.over.ensures) r)) ∙ sym w.same);
   always = tt;
   keeps = c.load.ensures.keeps ∙ c.loop-turn.invariant.0;
@@ -58,7 +58,7 @@ returns-in_default-onward g c = record {
       let s = g.met.K.PointKind.sound in
       let p = c.args.p.now in
       let w = c.loop-turn.invariant.1 ps t st e in
-      let rd = turn_bytes k s _ p ps c.loop-turn.page c.loop-turn.-turn w _ c.in-Ok.bytes c.loop-turn.invariant.0 c.in-Ok.ensures.gives.1 in
+      let rd = turn_bytes k s _ p ps c.loop-turn.page c.loop-turn._turn w _ c.in-Ok.bytes c.loop-turn.invariant.0 c.in-Ok.ensures.gives.1 in
       ap Ok (sym (w.same ∙ leads_none k s _ w.qs w.tree p c.in-Directory.fork c.in-Ok.bytes w.stands rd (subst (NodeRead k c.in-Ok.bytes) c.in-Directory.is c.in-Ok-read_node.ensures.1) c.in_default-onward.ensures));
   always = tt;
   keeps = c.load.ensures.keeps ∙ c.loop-turn.invariant.0;
@@ -72,13 +72,13 @@ loop-turn-preserved g c = (
       let s = g.met.K.PointKind.sound in
       let p = c.args.p.now in
       let w = c.loop-turn.invariant.1 ps t st e in
-      let rd = turn_bytes k s _ p ps c.loop-turn.page c.loop-turn.-turn w _ c.in-Ok.bytes c.loop-turn.invariant.0 c.in-Ok.ensures.gives.1 in
-      leads_on k s _ p ps c.loop-turn.page c.loop-turn.-turn c.in-Some.next c.in-Directory.fork c.in-Ok.bytes w rd (subst (NodeRead k c.in-Ok.bytes) c.in-Directory.is c.in-Ok-read_node.ensures.1) c.in-Some.ensures,
+      let rd = turn_bytes k s _ p ps c.loop-turn.page c.loop-turn._turn w _ c.in-Ok.bytes c.loop-turn.invariant.0 c.in-Ok.ensures.gives.1 in
+      leads_on k s _ p ps c.loop-turn.page c.loop-turn._turn c.in-Some.next c.in-Directory.fork c.in-Ok.bytes w rd (subst (NodeRead k c.in-Ok.bytes) c.in-Directory.is c.in-Ok-read_node.ensures.1) c.in-Some.ensures,
 )
 
 pub returns : goal.returns
 returns g c = record {
-  lawful = λ ps t st e. absurd (turn_last g.K.PointKind.kind g.met.K.PointKind.sound _ c.args.p.now ps c.loop-turn.page c.loop-turn.-turn (c.loop-turn.invariant.1 ps t st e) (omega (arith, c.loop-turn-test.false, c.bits-turn-end.ensures)));
+  lawful = λ ps t st e. absurd (turn_last g.K.PointKind.kind g.met.K.PointKind.sound _ c.args.p.now ps c.loop-turn.page c.loop-turn._turn (c.loop-turn.invariant.1 ps t st e) (omega (arith, c.loop-turn-test.false, c.bits-turn-end.ensures)));
   always = refl;
   keeps = c.loop-turn.invariant.0;
 }

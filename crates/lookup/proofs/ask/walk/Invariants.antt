@@ -8,4 +8,4 @@ abbrev pub invariant-loop-turn : goal.invariant-loop-turn
 invariant-loop-turn g l =
     (g.S.PageStore.pages l.store ≡ g.S.PageStore.pages l.initial.store)
     × ((ps : List g.row.K.Denot) (t : Laid g.row.K.Denot) → Standing g.K.PointKind.kind (g.S.PageStore.pages l.initial.store) ps t → number t ≡ l.start
-    → Turn g.K.PointKind.kind g.met.K.PointKind.sound (g.S.PageStore.pages l.initial.store) l.p ps l.page l.-turn)
+    → Turn g.K.PointKind.kind g.met.K.PointKind.sound (g.S.PageStore.pages l.initial.store) l.p ps l.page l._turn)

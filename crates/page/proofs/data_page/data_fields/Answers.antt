@@ -29,7 +29,7 @@ loop-i-preserved g c =
     let i = c.loop-i.i in
     let (ps, l, on, j) = c.loop-i.invariant in
     let e = c.in-Some.ensures in
-    let p = k.coords c.in-Some.-point in
+    let p = k.coords c.in-Some._point in
     let n = length-append ps (p ∷ []) in
     (ps ++ (p ∷ []), omega (arith, n, l), All-append _ ps (p ∷ []) on (e.0, tt), more_points k bs ps p i j e.1)
 
