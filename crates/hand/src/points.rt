@@ -1,7 +1,8 @@
 // What the hand holds.
-ghost use Rattle.std.specs.Prelude.{◌≤◌};
+ghost use Rattle.std.specs.Prelude.{◌≡◌, ◌≤◌, ⊤};
 
 use crate::places::Four;
+use std::alloc::AllocError;
 
 mod calls;
 
@@ -10,6 +11,16 @@ pub struct Hand<K> {
     points: Four<Four<K>>,
     count: usize,
     ghost few: { count ≤ 16 },
+}
+
+impl<K: Copy> Clone for Hand<K> {
+    ghost is_clone = { λ hand copy. copy ≡ hand };
+
+    ghost is_infallible = { λ _. ⊤ };
+
+    fn clone(&self) -> Result<Hand<K>, AllocError> {
+        Ok(*self)
+    }
 }
 
 impl<K: Copy> Copy for Hand<K> {}

@@ -101,7 +101,7 @@ returns-in_default-outline_below g c =
           let p : length card ≡ suc (c.in-Some.pages + c.in-Ok-read_head.head.free) = sym n ∙ c.in-Some.ensures.0 in
           let e = root_end k s card set w c.in-Some.pages _ h.1 p r.tree r.is_root r.stands in
           let f : c.in-Some.pages * c.record_size.result ≡ length (outline k (shape r.tree)) = ap (λ z. c.in-Some.pages * z) c.record_size.ensures ∙ e in
-          never_err (c.in_default-outline_below.ensures.lawful set r.tree (reached_on k c.load.ensures.keeps (root_reached k s card set _ r.tree r.stands (ap (summary k) c.in-Some-root.root_is ∙ sym r.entry_is))) (omega arith) (omega arith)).0;
+          never_err (c.in_default-outline_below.ensures.lawful set r.tree (reached_on k c.load.ensures.keeps (root_reached k s card set _ r.tree r.stands (ap (summary k) c.in-Some-root.root-is ∙ sym r.entry_is))) (omega arith) (omega arith)).0;
       always = inl refl;
       keeps = c.outline_below.ensures.keeps ∙ c.load.ensures.keeps;
     }
@@ -120,7 +120,7 @@ returns-then-next-end g c =
           let p : length card ≡ suc (c.in-Some.pages + c.in-Ok-read_head.head.free) = sym n ∙ c.in-Some.ensures.0 in
           let e = root_end k s card set w c.in-Some.pages _ h.1 p r.tree r.is_root r.stands in
           let f : c.in-Some.pages * c.record_size.result ≡ length (outline k (shape r.tree)) = ap (λ z. c.in-Some.pages * z) c.record_size.ensures ∙ e in
-          let v = c.in-Ok-outline_below.ensures.lawful set r.tree (reached_on k c.load.ensures.keeps (root_reached k s card set _ r.tree r.stands (ap (summary k) c.in-Some-root.root_is ∙ sym r.entry_is))) (omega arith) (omega arith) in
+          let v = c.in-Ok-outline_below.ensures.lawful set r.tree (reached_on k c.load.ensures.keeps (root_reached k s card set _ r.tree r.stands (ap (summary k) c.in-Some-root.root-is ∙ sym r.entry_is))) (omega arith) (omega arith) in
           whole_outline k s card set w c.in-Some.pages _ h.1 p r.tree r.is_root r.stands c.args.buffer.now _ _ (ap (λ z. c.in-Some.pages * z) c.record_size.ensures) v.1;
       always = (c.if-end-buffer.false, c.in-Ok-outline_below.ensures.always.1);
       keeps = c.outline_below.ensures.keeps ∙ c.load.ensures.keeps;
@@ -140,7 +140,7 @@ returns-else-next-end g c =
           let p : length card ≡ suc (c.in-Some.pages + c.in-Ok-read_head.head.free) = sym n ∙ c.in-Some.ensures.0 in
           let e = root_end k s card set w c.in-Some.pages _ h.1 p r.tree r.is_root r.stands in
           let f : c.in-Some.pages * c.record_size.result ≡ length (outline k (shape r.tree)) = ap (λ z. c.in-Some.pages * z) c.record_size.ensures ∙ e in
-          let v = c.in-Ok-outline_below.ensures.lawful set r.tree (reached_on k c.load.ensures.keeps (root_reached k s card set _ r.tree r.stands (ap (summary k) c.in-Some-root.root_is ∙ sym r.entry_is))) (omega arith) (omega arith) in
+          let v = c.in-Ok-outline_below.ensures.lawful set r.tree (reached_on k c.load.ensures.keeps (root_reached k s card set _ r.tree r.stands (ap (summary k) c.in-Some-root.root-is ∙ sym r.entry_is))) (omega arith) (omega arith) in
           let m = ok_is v.0 in
           absurd (c.if-next-end.false (omega arith));
       always = inl refl;

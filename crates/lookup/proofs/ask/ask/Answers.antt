@@ -58,7 +58,7 @@ returns g c =
       lawful = λ set w.
           let h = head_is k s _ set w c.in-Ok.bytes _ _ _ c.in-Ok.ensures.gives.1 c.in-Ok-read_head.ensures.1 in
           let r = rooted k s _ set w (summary k c.in-Some.root) (h.2 ∙ ap (root_summary k) c.in-Some.is) in
-          ask_found k s _ set w c.args.p.now c.walk.result on (c.walk.ensures.lawful set r.tree (subst (λ x. Standing k x set r.tree) (sym c.load.ensures.keeps) r.stands) (r.begins ∙ ap (λ x. x.page) (sym c.in-Some.root_is)));
+          ask_found k s _ set w c.args.p.now c.walk.result on (c.walk.ensures.lawful set r.tree (subst (λ x. Standing k x set r.tree) (sym c.load.ensures.keeps) r.stands) (r.begins ∙ ap (λ x. x.page) (sym c.in-Some.root-is)));
       always = ask_any k c.args.p.now c.walk.result on c.walk.ensures.always;
       keeps = c.walk.ensures.keeps ∙ c.load.ensures.keeps;
     }

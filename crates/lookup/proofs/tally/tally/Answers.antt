@@ -47,7 +47,7 @@ returns g c =
           let left = pages_left k s _ set w c.from-free_pages.result f c.count-count.result n in
           record {
             all_points = elim c.match-head.branch [
-              | in-Some v ↦ v.points-is ∙ ap (λ x. x.count) v.in-Some.root_is ∙ sym (rooted k s _ set w (summary k v.in-Some.root) (h.2 ∙ ap (root_summary k) v.in-Some.is)).counts
+              | in-Some v ↦ v.points-is ∙ ap (λ x. x.count) v.in-Some.root-is ∙ sym (rooted k s _ set w (summary k v.in-Some.root) (h.2 ∙ ap (root_summary k) v.in-Some.is)).counts
               | in-None v ↦ v.points-is ∙ sym (ap length (no_root k s _ set w (h.2 ∙ ap (root_summary k) v.in-None.is)).1)
             ];
             all_data = data_are k s _ set w c.from-free_pages.result f _ left;

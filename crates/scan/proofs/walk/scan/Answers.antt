@@ -45,7 +45,7 @@ returns g c =
           let h = head_is k s card set w c.in-Ok.bytes _ _ _ c.in-Ok.ensures.gives.1 c.in-Ok-read_head.ensures.1 in
           let r = rooted k s card set w (summary k c.in-Some.root) (h.2 ∙ ap (root_summary k) c.in-Some.is) in
           let n : suc c.saturating_sub-left.result ≡ length card = let a = c.count-count.ensures.gives ∙ ap length c.load.ensures.keeps in let b = w.size.0 in omega (arith, c.saturating_sub-left.ensures) in
-          let v = root_walked k s card set w r.tree r.is_root r.stands _ c.saturating_sub-left.result (ap (summary k) c.in-Some.root_is ∙ sym r.entry_is) n in
+          let v = root_walked k s card set w r.tree r.is_root r.stands _ c.saturating_sub-left.result (ap (summary k) c.in-Some.root-is ∙ sym r.entry_is) n in
           cases_map c.walk.result _ _ (λ m. m.0)
           (c.walk.ensures.lawful set r.tree (walked_on k c.load.ensures.keeps v) before [] (root_few_windowed k s card set w r.tree r.is_root r.stands c.args.window.now.low c.args.window.now.high) met);
       always = λ before fair. c.walk.ensures.always before fair;

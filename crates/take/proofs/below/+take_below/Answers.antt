@@ -127,7 +127,7 @@ returns-in_err-page g μ c =
           rw (exit.1, exit.2) (subst (λ (a : Card). TakeEnd k a ps p t r after) keeps
           (fork_case k s card' ps e c.args.above t w' bs is x dir (λ u. TakeEnd k card' ps p u r after) c.bit-side.result p c.requires.on c.requires.low_on c.depth.result c.depth.ensures.zeros c.if-depth-fork.false (sym c.bit-side.ensures)
           (λ q l h d.
-          let no = sub.lawful _ _ (down_own k s card' ps e c.args.above x c.bit-side.result p q l h d own c.sides-own.ensures.own_val) in
+          let no = sub.lawful _ _ (down_own k s card' ps e c.args.above x c.bit-side.result p q l h d own c.sides-own.ensures.own) in
           (sym (live_own k s card' ps e c.args.above x c.bit-side.result p q l h d) ∙ no.0, no.1))));
       always = rw (exit.1, exit.2) (sub.always.0 ∙ keeps, sub.always.1);
     }
@@ -160,7 +160,7 @@ returns-in-Gone g μ c =
           (λ q l h d.
           let n = half (code_of k) (wide k) x.depth c.bit-side.result ps in
           up_gone k s card' ps e c.args.above x c.bit-side.result p q l h d gone after other (other_entry k s card' ps e c.args.above x c.bit-side.result p q l h d other c.sides-own.ensures.other)
-          (subst (λ u. Shrunk k card' n p (chosen c.bit-side.result l h) u after) c.in-Gone.is (sub.lawful n (chosen c.bit-side.result l h) (down_own k s card' ps e c.args.above x c.bit-side.result p q l h d own c.sides-own.ensures.own_val)))));
+          (subst (λ u. Shrunk k card' n p (chosen c.bit-side.result l h) u after) c.in-Gone.is (sub.lawful n (chosen c.bit-side.result l h) (down_own k s card' ps e c.args.above x c.bit-side.result p q l h d own c.sides-own.ensures.own)))));
       always = (all.0, (c.in-Ok.ensures.gives.0, all.1));
     }
 
@@ -196,6 +196,6 @@ returns-in-Left g μ c =
           (λ q l h d.
           let n = half (code_of k) (wide k) x.depth c.bit-side.result ps in
           up_less k s card' ps e c.args.above x c.bit-side.result p q l h d el v pages mid after y c.with_half-next.ensures.low c.with_half-next.ensures.high c.narrowed.ensures (omega (arith, c.capacity.ensures, c.if-at-capacity.false)) written
-          (subst (λ u. Shrunk k card' n p (chosen c.bit-side.result l h) u mid) c.in-Left.is (sub.lawful n (chosen c.bit-side.result l h) (down_own k s card' ps e c.args.above x c.bit-side.result p q l h d own c.sides-own.ensures.own_val)))));
+          (subst (λ u. Shrunk k card' n p (chosen c.bit-side.result l h) u mid) c.in-Left.is (sub.lawful n (chosen c.bit-side.result l h) (down_own k s card' ps e c.args.above x c.bit-side.result p q l h d own c.sides-own.ensures.own)))));
       always = (ap length written ∙ length-set mid e.page _ ∙ all.0, all.1);
     }

@@ -19,7 +19,7 @@ returns-in_default g c =
     let k = g.K.PointKind.kind in
     let card = g.S.PageStore.pages c.args.store.now in
     record {
-      lawful = λ ps above q l h d few. absurd (own_told k g.met.K.PointKind.sound card ps c.args.at.now above c.args.fork.now c.args.bit c.args.p.now q l h d few c.sides-own.result.0 c.sides-own.result.1 c.sides-own.ensures.own_val c.sides-own.ensures.other
+      lawful = λ ps above q l h d few. absurd (own_told k g.met.K.PointKind.sound card ps c.args.at.now above c.args.fork.now c.args.bit c.args.p.now q l h d few c.sides-own.result.0 c.sides-own.result.1 c.sides-own.ensures.own c.sides-own.ensures.other
           (λ zs. ⊥) c.in_default.ensures.tells);
       always = (c.points_at.ensures.keeps, inl refl);
     }
@@ -30,7 +30,7 @@ returns-in_default-points_at g c =
     let k = g.K.PointKind.kind in
     let card = g.S.PageStore.pages c.args.store.now in
     record {
-      lawful = λ ps above q l h d few. absurd (other_told k g.met.K.PointKind.sound card ps c.args.at.now above c.args.fork.now c.args.bit c.args.p.now q l h d few c.sides-own.result.0 c.sides-own.result.1 c.sides-own.ensures.own_val c.sides-own.ensures.other
+      lawful = λ ps above q l h d few. absurd (other_told k g.met.K.PointKind.sound card ps c.args.at.now above c.args.fork.now c.args.bit c.args.p.now q l h d few c.sides-own.result.0 c.sides-own.result.1 c.sides-own.ensures.own c.sides-own.ensures.other
           (λ zs. ⊥) _ c.points_at.ensures.keeps c.in_default-points_at.ensures.tells);
       always = (c.points_at-2.ensures.keeps ∙ c.points_at.ensures.keeps, inl refl);
     }
@@ -50,8 +50,8 @@ returns-then-not-holds g c =
     let sides = c.sides-own.ensures in
     record {
       lawful = λ ps above q l h d few.
-          let is = own_told k s card ps e above x bit p q l h d few own other sides.own_val sides.other (λ zs. listed c.in-Ok.points ≡ zs) c.in-Ok.ensures.tells in
-          (sym (live_there k s card ps e above x bit p q l h d few own other sides.own_val sides.other) ∙ ap (live (code_of k) p) (sym is) ∙ sym c.holds.ensures ∙ c.if-not-holds.true, refl);
+          let is = own_told k s card ps e above x bit p q l h d few own other sides.own sides.other (λ zs. listed c.in-Ok.points ≡ zs) c.in-Ok.ensures.tells in
+          (sym (live_there k s card ps e above x bit p q l h d few own other sides.own sides.other) ∙ ap (live (code_of k) p) (sym is) ∙ sym c.holds.ensures ∙ c.if-not-holds.true, refl);
       always = (c.points_at-2.ensures.keeps ∙ c.points_at.ensures.keeps, inr refl);
     }
 
@@ -71,9 +71,9 @@ returns-then-count-eq0 g c =
     let keeps = c.points_at-2.ensures.keeps ∙ c.points_at.ensures.keeps in
     record {
       lawful = λ ps above q l h d few.
-          let is = own_told k s card ps e above x bit p q l h d few own other sides.own_val sides.other (λ zs. listed c.in-Ok.points ≡ zs) c.in-Ok.ensures.tells in
+          let is = own_told k s card ps e above x bit p q l h d few own other sides.own sides.other (λ zs. listed c.in-Ok.points ≡ zs) c.in-Ok.ensures.tells in
           subst (Shrunk k card ps p _ (Left other _)) (sym keeps)
-          (pair_gone k s card ps e above x bit p q l h d few own other sides.own_val sides.other (ap (live (code_of k) p) (sym is) ∙ sym c.holds.ensures ∙ c.if-not-holds.false)
+          (pair_gone k s card ps e above x bit p q l h d few own other sides.own sides.other (ap (live (code_of k) p) (sym is) ∙ sym c.holds.ensures ∙ c.if-not-holds.false)
           (ap length (ap (without_point (code_of k) p) (sym is) ∙ sym c.without-rest.ensures) ∙ sym c.count.ensures ∙ c.if-count-eq0.true));
       always = (ap length keeps, (c.requires.there, (c.in-Ok.ensures.sane.0, tt)));
     }
@@ -102,9 +102,9 @@ returns-then-count-capacity g c =
     let sides = c.sides-own.ensures in
     record {
       lawful = λ ps above q l h d few.
-          let is = own_told k s card ps e above x bit p q l h d few own other sides.own_val sides.other (λ zs. listed c.in-Ok.points ≡ zs) c.in-Ok.ensures.tells in
-          let is' = other_told k s card ps e above x bit p q l h d few own other sides.own_val sides.other (λ zs. listed c.in-Ok-points_at.beside ≡ zs) _ c.points_at.ensures.keeps c.in-Ok-points_at.ensures.tells in
-          let fit = both_fit k s card ps e above x bit p q l h d few own other sides.own_val sides.other (ap (live (code_of k) p) (sym is) ∙ sym c.holds.ensures ∙ c.if-not-holds.false) in
+          let is = own_told k s card ps e above x bit p q l h d few own other sides.own sides.other (λ zs. listed c.in-Ok.points ≡ zs) c.in-Ok.ensures.tells in
+          let is' = other_told k s card ps e above x bit p q l h d few own other sides.own sides.other (λ zs. listed c.in-Ok-points_at.beside ≡ zs) _ c.points_at.ensures.keeps c.in-Ok-points_at.ensures.tells in
+          let fit = both_fit k s card ps e above x bit p q l h d few own other sides.own sides.other (ap (live (code_of k) p) (sym is) ∙ sym c.holds.ensures ∙ c.if-not-holds.false) in
           let a = ap length (c.without-rest.ensures ∙ ap (without_point (code_of k) p) is) in
           let b = ap length is' in
           absurd (omega (arith, c.count-2.ensures, c.count-3.ensures, c.capacity.ensures, c.if-count-capacity.true));
@@ -139,11 +139,11 @@ returns g c =
     let written = c.put_page.ensures ∙ ap₂ (λ (a : Card) (b : List ℕ). set a own.page b) keeps c.page.ensures in
     record {
       lawful = λ ps above q l h d few.
-          let is = own_told k s card ps e above x bit p q l h d few own other sides.own_val sides.other (λ zs. listed c.in-Ok.points ≡ zs) c.in-Ok.ensures.tells in
-          let is' = other_told k s card ps e above x bit p q l h d few own other sides.own_val sides.other (λ zs. listed c.in-Ok-points_at.beside ≡ zs) _ c.points_at.ensures.keeps c.in-Ok-points_at.ensures.tells in
+          let is = own_told k s card ps e above x bit p q l h d few own other sides.own sides.other (λ zs. listed c.in-Ok.points ≡ zs) c.in-Ok.ensures.tells in
+          let is' = other_told k s card ps e above x bit p q l h d few own other sides.own sides.other (λ zs. listed c.in-Ok-points_at.beside ≡ zs) _ c.points_at.ensures.keeps c.in-Ok-points_at.ensures.tells in
           let left = c.without-rest.ensures ∙ ap (without_point (code_of k) p) is in
           let n = ap length left in
-          pair_merged k s card ps e above x bit p q l h d few own other sides.own_val sides.other c.entry.result xs (g.S.PageStore.pages c.put_page.new.store)
+          pair_merged k s card ps e above x bit p q l h d few own other sides.own sides.other c.entry.result xs (g.S.PageStore.pages c.put_page.new.store)
           (c.in_order-all.ensures ∙ ap₂ (λ (us vs : List g.row.K.Denot). chosen bit (us ++ vs) (vs ++ us)) left is')
           (ap (live (code_of k) p) (sym is) ∙ sym c.holds.ensures ∙ c.if-not-holds.false) (omega (arith, c.count.ensures, c.if-count-eq0.false))
           (entry_of k c.entry.result own.page xs xs refl c.entry.ensures.page c.entry.ensures.count c.entry.ensures.low c.entry.ensures.high) written;

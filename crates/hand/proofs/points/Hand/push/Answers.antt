@@ -15,7 +15,7 @@ pub invariant_of-self : goal.invariant_of-self
 invariant_of-self g c =
     let n = count_is c.args.self.now in
     let le : c.args.self.now.count + 1 ≤ 16 = omega (arith, c.requires) in
-    (le, tt)
+    record { few = le }
 
 pub returns : goal.returns
 returns g c =
