@@ -75,30 +75,30 @@ pub returns-in-List : goal.returns-in-List
 returns-in-List g c =
     let k = g.K.PointKind.kind in
     let before = g.S.PageStore.pages c.args.self.now.store in
-    let after = g.S.PageStore.pages c.list_answer.new.self.store in
+    let after = g.S.PageStore.pages c.list-answer.new.self.store in
     let v = c.in-List.buffer in
-    let ws = c.list_answer.new.buffer in
-    let r = c.list_answer.result in
+    let ws = c.list-answer.new.buffer in
+    let r = c.list-answer.result in
     let given = c.as_mut_slice.ensures.value in
-    let same = c.list_answer.auto.buffer in
+    let same = c.list-answer.auto.buffer in
     record {
-      lawful = λ set w. subst (λ x. Stepped k before after set w x (reply.List r (with_items v ws))) (sym c.in-List.is) (stays k before after set w _ _ c.list_answer.ensures.keeps (list_agree k c.in-List.window c.in-List.skip v _ ws given same r _ set (c.list_answer.ensures.lawful set w)) list_stays);
-      always = subst (λ x. Answered k before after x (reply.List r (with_items v ws))) (sym c.in-List.is) (list_answer k c.in-List.window c.in-List.skip v _ ws given same r before after c.list_answer.ensures.always c.list_answer.ensures.keeps);
-      origin = c.list_answer.ensures.origin;
+      lawful = λ set w. subst (λ x. Stepped k before after set w x (reply.List r (with_items v ws))) (sym c.in-List.is) (stays k before after set w _ _ c.list-answer.ensures.keeps (list_agree k c.in-List.window c.in-List.skip v _ ws given same r _ set (c.list-answer.ensures.lawful set w)) list_stays);
+      always = subst (λ x. Answered k before after x (reply.List r (with_items v ws))) (sym c.in-List.is) (list_answer k c.in-List.window c.in-List.skip v _ ws given same r before after c.list-answer.ensures.always c.list-answer.ensures.keeps);
+      origin = c.list-answer.ensures.origin;
     }
 
 pub returns-in-Outline : goal.returns-in-Outline
 returns-in-Outline g c =
     let k = g.K.PointKind.kind in
     let before = g.S.PageStore.pages c.args.self.now.store in
-    let after = g.S.PageStore.pages c.outline_answer.new.self.store in
+    let after = g.S.PageStore.pages c.outline-answer.new.self.store in
     let v = c.in-Outline.buffer in
-    let ws = c.outline_answer.new.buffer in
-    let r = c.outline_answer.result in
+    let ws = c.outline-answer.new.buffer in
+    let r = c.outline-answer.result in
     let given = c.as_mut_slice-in-Outline.ensures.value in
-    let same = c.outline_answer.auto.buffer in
+    let same = c.outline-answer.auto.buffer in
     record {
-      lawful = λ set w. subst (λ x. Stepped k before after set w x (reply.Outline r (with_items v ws))) (sym c.in-Outline.is) (stays k before after set w _ _ c.outline_answer.ensures.keeps (outline_agree k v _ ws given same r _ set (c.outline_answer.ensures.lawful set w)) outline_stays);
-      always = subst (λ x. Answered k before after x (reply.Outline r (with_items v ws))) (sym c.in-Outline.is) (outline_answer k v _ ws given same r before after c.outline_answer.ensures.always c.outline_answer.ensures.keeps);
-      origin = c.outline_answer.ensures.origin;
+      lawful = λ set w. subst (λ x. Stepped k before after set w x (reply.Outline r (with_items v ws))) (sym c.in-Outline.is) (stays k before after set w _ _ c.outline-answer.ensures.keeps (outline_agree k v _ ws given same r _ set (c.outline-answer.ensures.lawful set w)) outline_stays);
+      always = subst (λ x. Answered k before after x (reply.Outline r (with_items v ws))) (sym c.in-Outline.is) (outline_answer k v _ ws given same r before after c.outline-answer.ensures.always c.outline-answer.ensures.keeps);
+      origin = c.outline-answer.ensures.origin;
     }

@@ -38,7 +38,7 @@ returns g c =
     let card = g.S.PageStore.pages c.args.draft.store in
     let rest = into_iter_items c.loop-call.call-iterator in
     let over : rest ≡ [] = nil_from_length rest (omega (arith, c.in-None.ensures.steps.0, c.loop-call.call-iterator.rest.ok.0)) in
-    let made : into_iter_items c.into_iter-call-iterator.result ≡ vec_items c.args.calls = c.into_iter-call-iterator.ensures.into_iter-gives.0 in
+    let made : into_iter_items c.into_iter-call-iterator.result ≡ vec_items c.args.calls = c.into_iter-call-iterator.ensures.into_iter_gives.0 in
     let all : c.loop-call.yielded ≡ vec_items c.args.calls = sym (append-nil _) ∙ ap (λ t. c.loop-call.yielded ++ t) (sym over) ∙ c.loop-call.invariant.3 ∙ made in
     record {
       lawful = λ set w. subst (λ cs. Runs k (length card) card set cs (vec_items c.loop-call.replies) (g.S.PageStore.pages c.loop-call.draft.store)) all (c.loop-call.invariant.6 set w);
