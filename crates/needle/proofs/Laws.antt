@@ -1,9 +1,7 @@
 -- Splitting and joining undo each other.
-use Rattle.std.proofs.Common.{◌≡◌, ℕ, ◌<◌, ℤ, pos, ◌+ℤ◌, ◌*ℤ◌, ◌≤ℤ◌, ◌<ℤ◌, Ok, Err, Result, sym, ap, ◌∙◌, subst, arith}
+use Rattle.std.proofs.Common.{◌≡◌, ℕ, ◌<◌, ℤ, Ok, Err, sym, ap, ◌∙◌, subst, arith}
 use Rattle.std.proofs.lemmas.Int.{ints}
-use Rattle.refusal.specs.declared.Refusal.{Refusal}
-use Rattle.needle.specs.declared.Needles.{Needles}
-use Rattle.needle.specs.Shogs.{OnShogs, joined, Splits, SplitSays, JoinSays, BackLaw, AgainLaw, GreatestLaw}
+use Rattle.needle.specs.Shogs.{OnShogs, joined, BackLaw, AgainLaw, GreatestLaw}
 
 pub back : BackLaw
 back shog n s (Ok z) j = ap Ok (j.0 ∙ s.1.back)

@@ -1,22 +1,21 @@
 -- The laws of codes, at coordinates.
-use Rattle.std.proofs.Common.{◌≡◌, ℕ, zero, suc, pred, ◌+◌, ◌-◌, ◌*◌, ◌/◌, ◌%◌, ◌^◌, ◌<◌, ◌≤◌, Bool, true, false, cond, ◌⊎◌, List, [], ◌∷◌, ◌++◌, map, length, take, ℤ, ◌≤ℤ◌, ◌<ℤ◌, sym, refl, ap, ◌∙◌, subst, inl, inr, mod-lt, mod-eq_of_lt, div-lt_iff_lt-mul, one-mul, div-one, arith, lit<, pow_pos}
-use native.Mathlib.Decide.{ℕ_discrete}
+use Rattle.std.proofs.Common.{◌≡◌, ℕ, suc, ◌-◌, ◌/◌, ◌%◌, ◌^◌, ◌<◌, ◌≤◌, true, false, cond, ◌⊎◌, List, [], ◌∷◌, map, length, take, ℤ, sym, refl, ap, ◌∙◌, subst, inl, inr, mod-eq_of_lt, div-lt_iff_lt-mul, one-mul, div-one, arith, pow_pos}
 use lib.Arith.{lt_of_le-ne}
 use lib.Signed.{lt_z}
 use lib.Bits.{bit_xor}
 use lib.Count.{count_leading_zeros, leading_le}
 use Rattle.std.specs.Int.{int_min, int_max}
-use Rattle.std.specs.List.{ContainsAt as Has, AllByRecursion as All}
-use Rattle.std.proofs.ByRecursion.{All-weaker, All-map, has_append_right}
+use Rattle.std.specs.List.{AllByRecursion as All}
+use Rattle.std.proofs.ByRecursion.{All-weaker, All-map}
 use Rattle.std.proofs.lemmas.Int.{ints, clamps}
-use Rattle.zorder.specs.Code.{Axis, OnAxis, OnAxes, raised, raise, digits, rounds, code, woven, widths, width, first, bit_at, total}
-use Rattle.zorder.specs.Sharing.{Shares, Common, on_each, corner, least_corner, greatest_corner, Narrow, Under, Inside}
-use Rattle.zorder.specs.Laws.{TakenLaw, BelowLaw, OnePointLaw, OrderLaw, WindowLaw, BoundsLaw, DepthLaw, CornerLaw, ApartLaw}
+use Rattle.zorder.specs.Code.{Axis, OnAxis, OnAxes, raised, raise, digits, rounds, code, woven, widths, width, first}
+use Rattle.zorder.specs.Sharing.{on_each, corner, least_corner, greatest_corner, Narrow, Under}
+use Rattle.zorder.specs.Laws.{TakenLaw, BelowLaw, OnePointLaw, OrderLaw, WindowLaw, BoundsLaw, CornerLaw, ApartLaw}
 use Rattle.zorder.proofs.Bitlists.{Bin, digits_div, digits_eq, agree_digits, digits_agree}
 use Rattle.zorder.proofs.Order.{Each, done, each, Any, Below, rounds_bin, code_le}
-use Rattle.zorder.proofs.Mix.{Mix, unmixed, mixed, rounds_mix, AtMost, most, rounds_length, rounds_enough, Same, rounds_same}
+use Rattle.zorder.proofs.Mix.{Mix, unmixed, mixed, rounds_mix, most, rounds_length, rounds_enough, Same, rounds_same}
 use Rattle.zorder.proofs.Raised.{nat_abs_le, raised_lt, raised_eq}
-use Rattle.zorder.proofs.Shared.{agree_zeros, zeros_agree, between, bit_next, bit_order}
+use Rattle.zorder.proofs.Shared.{agree_zeros, zeros_agree, between, bit_next}
 
 -- two points on the axes
 pub data Two : List Axis → List ℤ → List ℤ → Type 0 where

@@ -1,5 +1,5 @@
 -- What the halving rule needs of shared bits and corners.
-use Rattle.std.proofs.Common.{◌≡◌, ℕ, zero, suc, ◌+◌, ◌-◌, ◌*◌, ◌/◌, ◌%◌, ◌^◌, ◌<◌, ◌≤◌, Bool, true, false, cond, eqb, ◌⊎◌, List, [], ◌∷◌, ◌++◌, map, length, ℤ, sym, refl, ap, ◌∙◌, subst, ap₂, inl, inr, mod-lt, lt_of_not-le, arith, lit<, shr-shr}
+use Rattle.std.proofs.Common.{◌≡◌, ℕ, suc, ◌+◌, ◌-◌, ◌/◌, ◌%◌, ◌^◌, ◌<◌, ◌≤◌, cond, eqb, ◌⊎◌, List, [], ◌∷◌, ◌++◌, map, length, ℤ, sym, refl, ap, ◌∙◌, subst, ap₂, inl, inr, mod-lt, lt_of_not-le, arith, lit<, shr-shr}
 use native.Mathlib.Decide.{ℕ_discrete}
 use lib.Bits.{bit_xor}
 use lib.Count.{count_leading_zeros}
@@ -13,7 +13,7 @@ use Rattle.zorder.specs.Sharing.{Shares, Common, Narrow, on_each, corner, least_
 use Rattle.zorder.specs.Halves.{half, Rising}
 use Rattle.zorder.specs.Laws.{DepthLaw, ZerosLaw, PartsLaw, HalvesLaw, JoinLaw}
 use Rattle.zorder.proofs.Corners.{all_and, all_unmap, code_lt, low_on, high_on, corner_law}
-use Rattle.zorder.proofs.Shared.{bit_next, bit_order, shares_one, shares_zeros}
+use Rattle.zorder.proofs.Shared.{bit_order, shares_one, shares_zeros}
 
 -- ---- how many bits
 

@@ -1,5 +1,5 @@
 -- Every number of W bits is the code of a point.
-use Rattle.std.proofs.Common.{◌≡◌, ℕ, zero, suc, pred, ◌+◌, ◌-◌, ◌*◌, ◌/◌, ◌%◌, ◌^◌, ◌<◌, ◌≤◌, List, [], ◌∷◌, ◌++◌, map, length, take, drop, ℤ, pos, ◌+ℤ◌, sym, refl, ap, ◌∙◌, subst, ap₂, mod-lt, mod-eq_of_lt, mul_assoc, mul_comm, add-mul, pow-suc, one-add, arith, lit<, pow_pos}
+use Rattle.std.proofs.Common.{◌≡◌, ℕ, zero, suc, pred, ◌+◌, ◌*◌, ◌/◌, ◌%◌, ◌^◌, ◌<◌, List, [], ◌∷◌, ◌++◌, map, length, take, drop, ℤ, pos, ◌+ℤ◌, sym, refl, ap, ◌∙◌, ap₂, mod-lt, mod-eq_of_lt, mul_assoc, mul_comm, add-mul, pow-suc, one-add, arith, lit<, pow_pos}
 use native.Mathlib.Nat.{mod-one}
 use lib.Arith.{digits_mod, digits_div}
 use lib.Pow.{mod-pow-add}
@@ -7,8 +7,7 @@ use Rattle.std.specs.List.{AllByRecursion as All}
 use Rattle.std.proofs.ByRecursion.{All-take, All-drop}
 use Rattle.std.proofs.lemmas.List.{nil_from_length, length-drop, length-take-le, take-append-drop}
 use Rattle.std.proofs.lemmas.Int.{ints}
-use Rattle.zorder.specs.Code.{Axis, OnAxis, OnAxes, raised, raise, digits, turn, turns, rounds, total, widths, width, woven, code}
-use Rattle.zorder.specs.Sharing.{Narrow}
+use Rattle.zorder.specs.Code.{Axis, OnAxis, OnAxes, raised, raise, digits, turns, rounds, total, widths, width, woven}
 use Rattle.zorder.specs.Laws.{EveryCodeLaw}
 use Rattle.zorder.proofs.Order.{Each, done, each}
 use Rattle.zorder.proofs.Mix.{AtMost, most, Same, lower_most, none_left}

@@ -1,10 +1,10 @@
 -- A point that has each of its values from one of two points shares the first bits that these share; how many bits there are; equal codes.
-use Rattle.std.proofs.Common.{◌≡◌, ℕ, zero, suc, pred, ◌+◌, ◌-◌, ◌*◌, ◌/◌, ◌%◌, ◌^◌, ◌<◌, ◌≤◌, ◌⊎◌, List, [], ◌∷◌, ◌++◌, map, length, take, sym, refl, ap, ◌∙◌, subst, inl, inr, one-add, arith, length-append}
+use Rattle.std.proofs.Common.{◌≡◌, ℕ, zero, suc, pred, ◌+◌, ◌*◌, ◌/◌, ◌%◌, ◌^◌, ◌≤◌, ◌⊎◌, List, [], ◌∷◌, ◌++◌, map, length, take, sym, refl, ap, ◌∙◌, inl, inr, one-add, arith, length-append}
 use native.Mathlib.Nat.{mod-one}
 use lib.Pow.{mod-pow-add}
 use Rattle.std.specs.List.{AllByRecursion as All}
-use Rattle.zorder.specs.Code.{digits, turn, turns, rounds, total}
-use Rattle.zorder.proofs.Order.{Each, done, each, Any, lowered}
+use Rattle.zorder.specs.Code.{turns, rounds, total}
+use Rattle.zorder.proofs.Order.{Each, done, each, lowered}
 
 pub data Mix : List ℕ → List ℕ → List ℕ → Type 0 where
   unmixed : Mix [] [] []

@@ -1,7 +1,7 @@
 -- The code rises with the coordinates.
-use Rattle.std.proofs.Common.{◌≡◌, ℕ, zero, suc, pred, ◌+◌, ◌-◌, ◌*◌, ◌/◌, ◌%◌, ◌^◌, ◌<◌, ◌≤◌, ◌⊎◌, List, [], ◌∷◌, ◌++◌, map, sym, refl, ap, ◌∙◌, subst, inl, inr, mod-lt, one-add, arith, lit<, pow_pos}
+use Rattle.std.proofs.Common.{◌≡◌, ℕ, zero, suc, pred, ◌+◌, ◌*◌, ◌/◌, ◌%◌, ◌^◌, ◌<◌, ◌≤◌, ◌⊎◌, List, [], ◌∷◌, ◌++◌, map, refl, inl, inr, mod-lt, one-add, arith, lit<, pow_pos}
 use lib.Pow.{mod-pow-add}
-use Rattle.zorder.specs.Code.{digits, turn, turns, rounds}
+use Rattle.zorder.specs.Code.{digits, turns, rounds}
 use Rattle.zorder.proofs.Bitlists.{Bin, none, one, Lex, same, less, next, digits_le}
 
 -- two points, value by value: k bits are left on the axis, and R k a b is known of their values

@@ -1,5 +1,5 @@
 -- Shared first bits of numbers, and the leading zeros of their xor.
-use Rattle.std.proofs.Common.{◌≡◌, ℕ, zero, suc, pred, ◌+◌, ◌-◌, ◌*◌, ◌/◌, ◌%◌, ◌^◌, ◌<◌, ◌≤◌, ◌⊎◌, sym, refl, ap, ◌∙◌, subst, inl, inr, div-lt_iff_lt-mul, one-mul, lt_of_not-le, arith, pow_pos, pow_mono, shr-shr}
+use Rattle.std.proofs.Common.{◌≡◌, ℕ, zero, suc, ◌+◌, ◌-◌, ◌/◌, ◌%◌, ◌^◌, ◌<◌, ◌≤◌, sym, ap, ◌∙◌, div-lt_iff_lt-mul, one-mul, lt_of_not-le, arith, pow_pos, pow_mono, shr-shr}
 use native.Mathlib.Nat.{div-eq_of_lt}
 use lib.Pow.{shr_mono}
 use lib.Bits.{bit_xor, xor_shr, xor_self, xor_assoc, xor_zero_l, xor_zero_r, xor_lt}

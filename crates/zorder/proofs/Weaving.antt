@@ -1,5 +1,5 @@
 -- The steps of the loops that weave a code.
-use Rattle.std.proofs.Common.{◌≡◌, ℕ, zero, suc, pred, ◌+◌, ◌-◌, ◌*◌, ◌/◌, ◌%◌, ◌^◌, ◌<◌, ◌≤◌, List, [], ◌∷◌, ◌++◌, map, length, get_or, drop, sym, refl, ap, ◌∙◌, subst, ap₂, mul_comm, div-lt_iff_lt-mul, one-mul, sub-one, arith, pow_pos, pow_mono}
+use Rattle.std.proofs.Common.{◌≡◌, ℕ, suc, pred, ◌+◌, ◌-◌, ◌*◌, ◌/◌, ◌%◌, ◌^◌, ◌<◌, ◌≤◌, List, [], ◌∷◌, ◌++◌, map, length, get_or, drop, sym, refl, ap, ◌∙◌, subst, ap₂, div-lt_iff_lt-mul, one-mul, sub-one, arith, pow_pos, pow_mono}
 use native.Mathlib.Nat.{sub-zero}
 use lib.Bits.{bit_and, and_mask}
 use lib.ListN.{length-map}
@@ -7,7 +7,7 @@ use Rattle.std.proofs.lemmas.List.{drop_more, get_or-map, drop_all}
 use Rattle.std.specs.List.{AllByRecursion as All}
 use Rattle.zorder.proofs.Bitlists.{digits_div}
 use Rattle.zorder.proofs.Order.{Each, done, each, Any, rounds_bin}
-use Rattle.zorder.proofs.Mix.{AtMost, most, rounds_length}
+use Rattle.zorder.proofs.Mix.{most, rounds_length}
 use Rattle.zorder.specs.Code.{digits, turn, turns, rounds, after, total}
 
 pub digits_ge : (m : ℕ) (xs : List ℕ) → m ≤ digits m xs

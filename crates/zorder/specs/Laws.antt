@@ -1,9 +1,9 @@
 -- The laws of codes, of corners and of halves, each for every list of axes, or for every one of at most 32 bits an axis (Narrow).
-use Rattle.std.specs.Prelude.{◌≡◌, ℕ, ◌^◌, ◌<◌, ◌≤◌, List, [], ◌∷◌, ◌++◌, map, length, ℤ, ◌≢◌, bit_xor}
+use Rattle.std.specs.Prelude.{◌≡◌, ℕ, ◌^◌, ◌<◌, ◌≤◌, List, ◌∷◌, ◌++◌, map, length, ℤ, ◌≢◌, bit_xor}
 use Rattle.std.specs.Int.Count.{count_leading_zeros}
 use Rattle.std.specs.Int.{int_min, int_max}
 use Rattle.std.specs.List.{AllByRecursion as All}
-use Rattle.zorder.specs.Code.{Axis, OnAxes, raise, rounds, digits, code, widths, width, first, bit_at}
+use Rattle.zorder.specs.Code.{Axis, OnAxes, raise, rounds, digits, code, widths, width}
 use Rattle.zorder.specs.Sharing.{Shares, Common, on_each, least_corner, greatest_corner, Narrow, Under, Inside}
 use Rattle.zorder.specs.Halves.{half, Rising}
 

@@ -1,5 +1,4 @@
-use Rattle.std.proofs.Common.{◌≡◌, ℕ, ◌+◌, ◌-◌, ◌*◌, ◌/◌, ◌^◌, ◌<◌, ◌≤◌, length, get_or, drop, sym, ap, ◌∙◌, arith, rules}
-use lib.Bits.{bit_and}
+use Rattle.std.proofs.Common.{ℕ, ◌+◌, ◌≤◌, drop, sym, ap, ◌∙◌, arith}
 use Rattle.std.proofs.ByRecursion.{All-get_or}
 use Rattle.zorder.specs.Code.{digits, turns, after}
 use Rattle.zorder.proofs.Weaving.{skipped, taken, bit_fits, turns_end}

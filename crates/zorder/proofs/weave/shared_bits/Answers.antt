@@ -1,4 +1,4 @@
-use Rattle.std.proofs.Common.{◌≡◌, ℕ, ◌+◌, ◌-◌, ◌≤◌, sym, subst, arith}
+use Rattle.std.proofs.Common.{◌≡◌, ◌-◌, sym, subst, arith}
 use lib.Bits.{bit_xor, xor_lt}
 use lib.Count.{count_leading_zeros}
 use Rattle.zorder.specs.Sharing.{Shares}

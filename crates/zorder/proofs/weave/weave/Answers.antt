@@ -1,4 +1,4 @@
-use Rattle.std.proofs.Common.{◌≡◌, ℕ, ◌+◌, ◌-◌, sym, refl, ap, ◌∙◌, arith, rules}
+use Rattle.std.proofs.Common.{◌+◌, ◌-◌, ap, ◌∙◌, arith}
 use Rattle.zorder.specs.Code.{digits, rounds, after, woven}
 use Rattle.zorder.proofs.Weaving.{after_none, round_more, round_fits}
 use Rattle.zorder.proofs.weave.weave.Goals as goal
