@@ -6,22 +6,18 @@ set -u
 here=$(cd "$(dirname "$0")" && pwd) || exit 1
 copy=$(mktemp -d) || exit 1
 trap 'rm -rf "$copy"' EXIT
-cp -R "$here/../crates" "$here/../crates.txt" "$copy" || exit 1
-# what was proved before, if it still stands there, need not be proved again
-mkdir "$copy/target" || exit 1
-for made in rlib stamp; do
-    if [ -d "$here/../target/$made" ]; then cp -R "$here/../target/$made" "$copy/target" || exit 1; fi
-done
+tar -C "$here/.." --exclude=out -cf - crates crates.txt | tar -C "$copy" -xf - || exit 1
 cd "$copy" || exit 1
 mkdir -p crates/misuse/src && echo 'misuse: origin kinds refusal' >> crates.txt || exit 1
-source=crates/misuse/src/lib.rt
+cd crates/misuse || exit 1
+source=src/lib.rt
 failed=0
 
 # refused NAME CODE: the only error is CODE, at the marked line
 refused() {
     cp "$here/misuse/$1.snippet" "$source" || exit 1
     line=$(grep -n 'refused here' "$source" | cut -d: -f1)
-    if rt dev misuse > log 2>&1; then
+    if rt check > log 2>&1; then
         echo "$1: ACCEPTED, and should be refused"; failed=1
     elif [ "$(grep -c 'error' log)" = 1 ] && grep -q "$source:$line:[0-9]*: error\[$2\]" log; then
         echo "$1: refused, $2"
@@ -33,7 +29,7 @@ refused() {
 # proved NAME: the corrected snippet is proved
 proved() {
     cp "$here/misuse/$1.right" "$source" || exit 1
-    if rt dev misuse > log 2>&1 && grep -q '^fn misuse::placed: proved' log; then
+    if rt check > log 2>&1 && grep -q '^fn misuse::placed: proved' log; then
         echo "$1, corrected: proved"
     else
         echo "$1, corrected: NOT PROVED:"; tail -n 5 log; failed=1

@@ -1,16 +1,14 @@
 -- The head of a lawful card.
-use Rattle.std.proofs.Common.{◌≡◌, ℕ, zero, suc, ◌+◌, ◌<◌, ◌≤◌, Bool, true, false, ◌⊎◌, List, [], ◌∷◌, length, get_or, Some, None, Ok, Err, Option, Result, sym, refl, ap, ◌∙◌, subst, inl, inr, arith}
-use Rattle.std.specs.List.{ContainsAt as Has}
-use Rattle.kinds.specs.Kind.{Kind, Sound, On, Whether, code_of}
+use Rattle.std.proofs.Common.{◌≡◌, ℕ, ◌≤◌, List, [], ◌∷◌, length, get_or, Some, None, Err, Option, sym, refl, ap, ◌∙◌, subst, arith}
+use Rattle.kinds.specs.Kind.{Kind, Sound}
 use Rattle.page.specs.declared.fault.PageFault.{PageFault}
 use Rattle.page.specs.declared.fault.PageFault.TheVariants as fault
-use Rattle.page.specs.Form.{Summary, View, head_view, encode, times}
+use Rattle.page.specs.Form.{Summary, head_view, encode, times}
 use Rattle.page.specs.Fields.{Reads}
 use Rattle.page.specs.Checks.{Checked}
 use Rattle.page.proofs.Views.{one_view_law, one_same}
-use Rattle.tree.specs.Sets.{live}
 use Rattle.tree.specs.Tree.{OptionalTreeOf}
-use Rattle.tree.specs.Laid.{Laid, number, root_shape, root_numbers}
+use Rattle.tree.specs.Laid.{Laid, number, root_shape}
 use Rattle.tree.specs.Lawful.{Card, page, entry, root_entry, front, Lawful}
 use Rattle.tree.specs.Standing.{Standing}
 use Rattle.tree.proofs.Standings.{points_are, root_standing, head_reads}

@@ -1,10 +1,10 @@
 -- The pages of a tree that stands on a card, as they are read.
-use Rattle.std.proofs.Common.{◌≡◌, ℕ, ◌<◌, ◌≤◌, List, [], ◌∷◌, map, length, get_or, Some, None, Ok, Err, Result, sym, refl, ap, ◌∙◌, subst, arith}
+use Rattle.std.proofs.Common.{◌≡◌, ℕ, ◌≤◌, List, [], ◌∷◌, get_or, Some, Err, ap, arith}
 use Rattle.kinds.specs.Kind.{Kind, Sound}
 use Rattle.page.specs.declared.directory_page.Fork.{Fork}
 use Rattle.page.specs.declared.fault.PageFault.{PageFault}
 use Rattle.page.specs.declared.fault.PageFault.TheVariants as fault
-use Rattle.page.specs.Form.{encode, data_view, directory_view, times}
+use Rattle.page.specs.Form.{encode, times}
 use Rattle.page.specs.Fields.{Reads}
 use Rattle.page.specs.Checks.{Checked, IsData, DirectoryRead, summary}
 use Rattle.page.proofs.Views.{one_view_law, one_same}

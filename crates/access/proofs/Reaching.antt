@@ -1,20 +1,19 @@
 -- From the page that was read to the tree, and down to the half of the next bit.
-use Rattle.std.proofs.Common.{◌≡◌, ℕ, suc, ◌+◌, ◌^◌, ◌<◌, ◌≤◌, Bool, true, false, ◌⊎◌, List, [], ◌∷◌, ◌++◌, map, length, sym, refl, ap, ◌∙◌, subst, inl, inr, ⊎_elim, arith}
+use Rattle.std.proofs.Common.{◌≡◌, ℕ, suc, ◌+◌, ◌<◌, ◌≤◌, true, false, ◌⊎◌, List, length, sym, refl, ap, ◌∙◌, subst, inl, inr, arith}
 use Rattle.std.specs.List.{AllByRecursion as All}
 use Rattle.std.proofs.ByRecursion.{All-weaker}
-use Rattle.zorder.specs.Code.{code, first, bit_at}
+use Rattle.zorder.specs.Code.{code, first}
 use Rattle.zorder.specs.Halves.{half}
-use Rattle.kinds.specs.Kind.{Kind, Sound, On, wide, code_of, low_corner, high_corner}
-use Rattle.page.specs.Form.{Summary, View, data_view, directory_view}
+use Rattle.kinds.specs.Kind.{Kind, Sound, wide, code_of, low_corner, high_corner}
+use Rattle.page.specs.Form.{Summary, directory_view}
 use Rattle.page.specs.Fields.{Reads}
 use Rattle.page.specs.Checks.{IsData}
 use Rattle.page.proofs.Views.{one_view_law}
-use Rattle.tree.specs.Tree.{Depth}
-use Rattle.tree.specs.Laid.{Laid, data_at, directory_at, number, numbers, shape, below_it, agrees}
+use Rattle.tree.specs.Laid.{Laid, data_at, directory_at, below_it, agrees}
 use Rattle.tree.specs.Lawful.{Card, page, entry}
 use Rattle.tree.specs.Standing.{view_of, Standing}
 use Rattle.tree.proofs.Halves.{Parted}
-use Rattle.tree.proofs.Standings.{leaf_inv, node_inv, parted, points_are, some_points, standing_low, standing_high, standing_reads, standing_there, corner_front}
+use Rattle.tree.proofs.Standings.{node_inv, parted, points_are, some_points, standing_low, standing_high, standing_reads, standing_there, corner_front}
 use Rattle.tree.proofs.Laws.{agrees_all, agrees_none, half_shares, depth_least, no_bits, fits}
 use Rattle.access.specs.Reached.{chosen, Reached}
 

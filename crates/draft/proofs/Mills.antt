@@ -1,9 +1,9 @@
 -- What a mill asks of a run, proved.
-use Rattle.std.proofs.Common.{◌≡◌, ℕ, zero, suc, ◌<◌, ◌≤◌, Bool, true, false, cond, ◌⊎◌, List, [], ◌∷◌, ◌++◌, length, Ok, Err, filter, sym, refl, ap, ◌∙◌, subst, inl, inr, ⊎_elim, arith}
+use Rattle.std.proofs.Common.{◌≡◌, ℕ, suc, Bool, true, false, List, [], ◌∷◌, Ok, Err, filter, sym, refl, ap, ◌∙◌, subst, ⊎_elim, arith}
 use Rattle.std.specs.List.{ContainsAt as Has, AllByRecursion as All}
 use Rattle.std.proofs.ByRecursion.{All-weaker, all-has}
 use Rattle.std.proofs.lemmas.Bool.{cond-true, cond_both}
-use Rattle.zorder.specs.Sharing.{Under, Inside}
+use Rattle.zorder.specs.Sharing.{Inside}
 use Rattle.zorder.proofs.Corners.{under_then}
 use Rattle.kinds.specs.Kind.{Kind, Sound, On, Whether, code_of}
 use Rattle.tree.specs.Sets.{with_point}
@@ -18,7 +18,7 @@ use Rattle.draft.specs.declared.calls.Call.{Call}
 use Rattle.draft.specs.declared.calls.Call.TheVariants as call
 use Rattle.draft.specs.declared.calls.Reply.{Reply}
 use Rattle.draft.specs.declared.calls.Reply.TheVariants as reply
-use Rattle.draft.specs.Runs.{Agrees, put_agrees, take_agrees, Moves, put_adds, put_stays, take_removes, take_stays, ask_stays, pick_stays, list_stays, count_stays, tally_stays, outline_stays, Step, Run, rests, goes, NeverTaken, NeverPut, KeptLaw, GoneLaw, SameTreeLaw}
+use Rattle.draft.specs.Runs.{Agrees, put_agrees, take_agrees, Moves, put_adds, put_stays, take_removes, take_stays, ask_stays, pick_stays, list_stays, count_stays, tally_stays, outline_stays, Run, rests, goes, NeverTaken, NeverPut, KeptLaw, GoneLaw, SameTreeLaw}
 
 has_later : {X : Type 0} (x y : X) (xs : List X) → Has xs x → Has (y ∷ xs) x
 has_later x y xs h = (suc h.0, (let a = h.1 in omega arith), λ d. h.2 d)

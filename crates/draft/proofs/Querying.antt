@@ -1,11 +1,11 @@
 -- Queries answered over the live points.
-use Rattle.std.proofs.Common.{◌≡◌, ℕ, zero, suc, ◌<◌, ◌≤◌, Bool, true, false, ◌⊎◌, List, [], ◌∷◌, length, ℤ, Ok, Err, Result, sym, refl, ap, ◌∙◌, subst, inl, inr, ⊎_elim, arith}
+use Rattle.std.proofs.Common.{◌≡◌, ℕ, suc, ◌≤◌, Bool, true, false, List, [], ◌∷◌, length, ℤ, Ok, Err, Result, sym, refl, ap, ◌∙◌, subst, ⊎_elim, arith}
 use Rattle.std.specs.List.{ContainsAt as Has, AllByRecursion as All}
 use Rattle.std.proofs.ByRecursion.{All-weaker, all-has}
 use Rattle.std.proofs.lemmas.Bool.{cases_Bool, cond-true, cond-false}
 use Rattle.refusal.specs.declared.Refusal.{Refusal}
-use Rattle.refusal.specs.Numbers.{number, numbered}
-use Rattle.zorder.specs.Sharing.{Under, Inside}
+use Rattle.refusal.specs.Numbers.{numbered}
+use Rattle.zorder.specs.Sharing.{Under}
 use Rattle.kinds.specs.Kind.{Kind, Sound, On, Whether}
 use Rattle.tree.specs.Book.{InWindow, low_off, high_off, crossed, in_it, Asks, ask_off, ask_done, windowed}
 use Rattle.tree.specs.Lawful.{Card, Lawful}

@@ -1,5 +1,5 @@
 -- Runs, grown call by call.
-use Rattle.std.proofs.Common.{◌≡◌, ℕ, List, [], ◌∷◌, ◌++◌, length, sym, refl, ap, ◌∙◌, subst}
+use Rattle.std.proofs.Common.{◌≡◌, ℕ, List, [], ◌∷◌, ◌++◌, length, subst}
 use Rattle.kinds.specs.Kind.{Kind}
 use Rattle.tree.specs.Lawful.{Card, Lawful}
 use Rattle.draft.specs.declared.calls.Call.{Call}

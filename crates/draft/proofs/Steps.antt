@@ -1,5 +1,5 @@
 -- A call's step from what its own method promises.
-use Rattle.std.proofs.Common.{◌≡◌, ℕ, List, [], ◌∷◌, ◌++◌, length, take, drop, Ok, Err, vec_items, vec_len, Result, Vec, sym, refl, ap, ◌∙◌, subst, arith, take_all}
+use Rattle.std.proofs.Common.{◌≡◌, ℕ, List, length, drop, Ok, Err, vec_items, vec_len, Result, Vec, sym, refl, ap, ◌∙◌, subst, arith, take_all}
 use lib.Seq.{take-append-le}
 use Rattle.std.specs.Vec.{with_items}
 use Rattle.std.specs.declared.alloc.Global.{Global}
@@ -19,7 +19,7 @@ use Rattle.draft.specs.declared.calls.Call.{Call}
 use Rattle.draft.specs.declared.calls.Call.TheVariants as call
 use Rattle.draft.specs.declared.calls.Reply.{Reply}
 use Rattle.draft.specs.declared.calls.Reply.TheVariants as reply
-use Rattle.draft.specs.Runs.{Agrees, put_agrees, take_agrees, Moves, put_adds, put_stays, take_removes, take_stays, Changes, put_changes, take_changes, no_change, Step, list_agrees, outline_agrees, Answered, list_answered, outline_answered}
+use Rattle.draft.specs.Runs.{Agrees, put_agrees, take_agrees, Moves, put_adds, put_stays, take_removes, take_stays, put_changes, take_changes, no_change, Step, list_agrees, outline_agrees, Answered, list_answered, outline_answered}
 
 module _ {P : Type 0} (k : Kind P) (before after : Card) (set : List P) (was : Lawful k before set) where
   -- a call with its next set

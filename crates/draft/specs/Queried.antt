@@ -1,5 +1,5 @@
 -- What the calls answer to a query, over the live points.
-use Rattle.std.specs.Prelude.{ℕ, ◌≤◌, Bool, List, length, Ok, Err, Result}
+use Rattle.std.specs.Prelude.{◌≤◌, Bool, List, length, Ok, Err, Result}
 use Rattle.refusal.specs.declared.Refusal.{Refusal}
 use Rattle.zorder.specs.Sharing.{Under}
 use Rattle.kinds.specs.Kind.{Kind, On, Whether}

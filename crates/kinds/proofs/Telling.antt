@@ -1,11 +1,11 @@
 -- What the generic functions on points tell.
-use Rattle.std.proofs.Common.{◌≡◌, ℕ, ◌^◌, ◌<◌, ◌≤◌, Bool, true, false, List, [], ◌∷◌, map, ℤ, sym, refl, ap, ◌∙◌, subst, ap₂, arith}
+use Rattle.std.proofs.Common.{◌≡◌, ℕ, ◌^◌, ◌<◌, Bool, true, false, List, [], ◌∷◌, map, ℤ, sym, refl, ap, subst, ap₂, arith}
 use lib.Bits.{bit_xor}
 use lib.Count.{count_leading_zeros}
 use Rattle.std.specs.List.{AllByRecursion as All}
 use Rattle.std.proofs.ByRecursion.{All-map}
 use Rattle.zorder.specs.Code.{OnAxes, code}
-use Rattle.zorder.specs.Sharing.{Under, Shares, Common}
+use Rattle.zorder.specs.Sharing.{Under, Common}
 use Rattle.zorder.proofs.Corners.{code_lt, corner_law, under_same, under_both}
 use Rattle.kinds.specs.Kind.{Kind, Sound, Whether, wide, code_of, On, low_corner, high_corner}
 

@@ -1,5 +1,5 @@
 -- A point kind as a value: its axes, its capacity and its page kinds. Code, byte form and corners follow from the axes.
-use Rattle.std.specs.Prelude.{◌≡◌, ℕ, ◌+◌, ◌*◌, ◌<◌, ◌≤◌, Bool, ◌≢◌, List, [], ◌∷◌, map, length, ℤ, MatchBool}
+use Rattle.std.specs.Prelude.{◌≡◌, ℕ, ◌+◌, ◌*◌, ◌≤◌, Bool, ◌≢◌, List, [], ◌∷◌, map, length, ℤ, MatchBool}
 use Rattle.std.specs.List.{AllByRecursion as All}
 use Rattle.zorder.specs.Code.{Axis, OnAxes, code, width}
 use Rattle.zorder.specs.Sharing.{Narrow, least_corner, greatest_corner}

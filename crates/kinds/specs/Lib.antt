@@ -4,5 +4,5 @@ pub mod Numbers
 pub mod Lay
 pub mod Bar
 pub mod Edges
-pub mod BarKindLemmas
-pub mod LayKindLemmas
+pub mod LaySound
+pub mod BarSound

@@ -3,8 +3,7 @@ ghost use Rattle.std.specs.Prelude.{◌≡◌};
 ghost use Rattle.zorder.specs.Code.{raise};
 ghost use Rattle.kinds.specs.Kind.{On};
 ghost use Rattle.kinds.specs.Bar.{bar_axes, bar_kind};
-ghost use Rattle.std.proofs.Common.{rules};
-ghost use Rattle.kinds.specs.BarKindLemmas.{every, one};
+ghost use Rattle.kinds.specs.BarSound.{bar_sound};
 
 use crate::kind::PointKind;
 use crate::shape::Shape;
@@ -52,7 +51,7 @@ impl PointKind for BarPoint {
 
     ghost kind = { bar_kind };
 
-    ghost sound = { Prim.search (rules, every, one) };
+    ghost sound = { bar_sound };
 
     fn shape() -> Shape {
         Shape {

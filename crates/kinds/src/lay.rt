@@ -3,8 +3,7 @@ ghost use Rattle.std.specs.Prelude.{◌≡◌};
 ghost use Rattle.zorder.specs.Code.{raise};
 ghost use Rattle.kinds.specs.Kind.{On};
 ghost use Rattle.kinds.specs.Lay.{lay_axes, lay_kind};
-ghost use Rattle.std.proofs.Common.{rules};
-ghost use Rattle.kinds.specs.LayKindLemmas.{every, one};
+ghost use Rattle.kinds.specs.LaySound.{lay_sound};
 
 use crate::kind::PointKind;
 use crate::shape::Shape;
@@ -47,7 +46,7 @@ impl PointKind for LayPoint {
 
     ghost kind = { lay_kind };
 
-    ghost sound = { Prim.search (rules, every, one) };
+    ghost sound = { lay_sound };
 
     fn shape() -> Shape {
         Shape {

@@ -1,5 +1,5 @@
 -- What ask answers on a lawful card.
-use Rattle.std.proofs.Common.{◌≡◌, ℕ, Bool, true, false, ◌⊎◌, List, [], length, Ok, Err, Result, sym, refl, ap, ◌∙◌, subst, inl, inr, arith}
+use Rattle.std.proofs.Common.{◌≡◌, Bool, false, List, [], length, Ok, Err, Result, sym, ap, subst, inr, arith}
 use Rattle.refusal.specs.declared.Refusal.{Refusal}
 use Rattle.refusal.specs.Numbers.{numbered}
 use Rattle.kinds.specs.Kind.{Kind, Sound, On, code_of}

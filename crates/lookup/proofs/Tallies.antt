@@ -1,7 +1,7 @@
 -- The tally of a lawful card.
-use Rattle.std.proofs.Common.{◌≡◌, ℕ, suc, ◌+◌, ◌-◌, ◌/◌, ◌<◌, ◌≤◌, List, [], ◌∷◌, length, Some, None, Option, sym, refl, ap, ◌∙◌, subst, arith}
+use Rattle.std.proofs.Common.{◌≡◌, ℕ, suc, ◌+◌, ◌-◌, ◌/◌, ◌<◌, List, length, Some, None, Option, sym, ap, ◌∙◌, arith}
 use Rattle.kinds.specs.Kind.{Kind, Sound}
-use Rattle.tree.specs.Tree.{Tree, data_pages, directory_pages, OptionalTreeOf, count_pages, count_data, count_directories}
+use Rattle.tree.specs.Tree.{Tree, OptionalTreeOf, count_pages, count_data, count_directories}
 use Rattle.tree.specs.Laid.{root_shape}
 use Rattle.tree.specs.Lawful.{Card, Lawful}
 use Rattle.tree.proofs.Trees.{data_more}

@@ -1,9 +1,9 @@
 -- The way of a point on a card that shows the tree of a set.
-use Rattle.std.proofs.Common.{◌≡◌, ℕ, zero, suc, ◌+◌, ◌^◌, ◌<◌, ◌≤◌, Bool, true, false, cond, eqb, ◌⊎◌, List, [], ◌∷◌, map, length, get_or, ℤ, Some, None, Ok, Err, Option, Result, sym, refl, ap, ◌∙◌, subst, inl, inr, ⊎_elim, arith}
+use Rattle.std.proofs.Common.{◌≡◌, ℕ, suc, ◌+◌, ◌<◌, ◌≤◌, Bool, true, false, List, [], ◌∷◌, map, length, Some, None, sym, refl, ap, ◌∙◌, subst, ⊎_elim, arith}
 use Rattle.std.specs.List.{ContainsAt as Has, AllByRecursion as All}
-use Rattle.std.proofs.lemmas.Bool.{cases_Bool, both_ways, eq-eqb}
+use Rattle.std.proofs.lemmas.Bool.{cases_Bool}
 use Rattle.std.proofs.ByRecursion.{All-weaker, All-map, all-has, all_has_itself}
-use Rattle.zorder.specs.Code.{OnAxes, code, first, bit_at}
+use Rattle.zorder.specs.Code.{code, first, bit_at}
 use Rattle.zorder.specs.Halves.{half, Rising}
 use Rattle.zorder.proofs.Corners.{all_unmap}
 use Rattle.zorder.proofs.Halving.{first_fewer}
@@ -13,11 +13,11 @@ use Rattle.page.specs.Form.{Point, data_view}
 use Rattle.page.specs.Fields.{Reads}
 use Rattle.page.specs.Checks.{IsData, DirectoryRead, Held}
 use Rattle.tree.specs.Sets.{IsSet, live}
-use Rattle.tree.specs.Laid.{Laid, data_at, directory_at, number, below_it}
+use Rattle.tree.specs.Laid.{Laid, data_at, directory_at, number}
 use Rattle.tree.specs.Lawful.{Card, page}
 use Rattle.tree.specs.Standing.{view_of, Standing}
 use Rattle.tree.proofs.Halves.{Parted, half_live, half_all}
-use Rattle.tree.proofs.Standings.{leaf_inv, node_inv, parted, points_are, some_points, standing_low, standing_high, standing_reads, standing_there, corner_front}
+use Rattle.tree.proofs.Standings.{leaf_inv, node_inv, parted, points_are, standing_low, standing_high, standing_reads, standing_there, corner_front}
 use Rattle.tree.proofs.Laws.{set_law, live_shares, half_shares, depth_least, no_bits, fits}
 use Rattle.access.proofs.Nodes.{SameFork, fork_is, no_fork, no_data}
 use Rattle.lookup.specs.Asking.{Leads}
@@ -105,13 +105,13 @@ module _ {P : Type 0} (k : Kind P) (s : Sound k) (card : Card) where
   -- a point that does not share the first bits is not there
   pub leads_none : (qs : List P) (t : Laid P) (p : P) (x : Fork P) (bs : List ℕ) → Standing k card qs t → Reads k bs (view_of k t) → DirectoryRead k bs (Some x) → Leads k x p None → live (code_of k) p qs ≡ false
   leads_none qs (data_at q xs) p x bs st rd d off = no_fork k s x bs q xs d rd
-  leads_none qs (directory_at q n l h) p x bs st rd d not-shared =
+  leads_none qs (directory_at q n l h) p x bs st rd d not_shared =
       let i = node_inv k st.halved in
       let part = parted k s n qs st.is_set i.0 i.1 in
       let f = fork_is k s x bs q n l h d rd in
       let e = fork_front x qs q n l h st f part in
       ⊎_elim
-      (λ on. absurd (not-shared (subst (λ m. first (wide k) m (code_of k x.low.low) ≡ first (wide k) m (code_of k p)) (sym f.depth) (e ∙ sym (live_shares (code_of k) (wide k) n part.front qs p part.share on)))))
+      (λ on. absurd (not_shared (subst (λ m. first (wide k) m (code_of k x.low.low) ≡ first (wide k) m (code_of k p)) (sym f.depth) (e ∙ sym (live_shares (code_of k) (wide k) n part.front qs p part.share on)))))
       (λ off. off)
       (cases_Bool (live (code_of k) p qs))
 

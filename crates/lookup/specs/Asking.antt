@@ -1,10 +1,9 @@
 -- What ask answers.
-use Rattle.std.specs.Prelude.{◌≡◌, ℕ, Bool, true, false, ◌⊎◌, List, Some, None, Ok, Err, Option, Result}
-use Rattle.std.specs.List.{ContainsAt as Has}
+use Rattle.std.specs.Prelude.{◌≡◌, ℕ, Bool, ◌⊎◌, Some, None, Ok, Err, Option, Result}
 use Rattle.refusal.specs.declared.Refusal.{Refusal}
 use Rattle.refusal.specs.Numbers.{number}
 use Rattle.zorder.specs.Code.{first, bit_at}
-use Rattle.kinds.specs.Kind.{Kind, On, Whether, wide, code_of}
+use Rattle.kinds.specs.Kind.{Kind, On, wide, code_of}
 use Rattle.page.specs.declared.directory_page.Fork.{Fork}
 
 -- an answer, or the refusal 9

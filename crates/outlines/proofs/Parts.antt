@@ -1,21 +1,20 @@
 -- The outline of a part of the tree that an entry leads to.
-use Rattle.std.proofs.Common.{◌≡◌, ℕ, zero, suc, ◌+◌, ◌*◌, ◌<◌, ◌≤◌, List, [], ◌∷◌, ◌++◌, length, sym, refl, ap, ◌∙◌, subst, inl, inr, add-mul, arith, length-append}
+use Rattle.std.proofs.Common.{◌≡◌, ℕ, zero, suc, ◌+◌, ◌*◌, ◌≤◌, List, ◌∷◌, ◌++◌, length, sym, refl, ap, ◌∙◌, subst, add-mul, arith, length-append}
 use lib.Bits.{bit_xor}
 use lib.Count.{count_leading_zeros}
 use Rattle.std.specs.List.{AllByRecursion as All}
-use Rattle.zorder.specs.Code.{OnAxes, code}
+use Rattle.zorder.specs.Code.{code}
 use Rattle.zorder.specs.Halves.{half}
 use Rattle.kinds.specs.Bytes.{bytes, form}
-use Rattle.kinds.specs.Kind.{Kind, Sound, On, wide, code_of, size_of, entry_length, low_corner, high_corner}
+use Rattle.kinds.specs.Kind.{Kind, Sound, On, wide, code_of, entry_length, low_corner, high_corner}
 use Rattle.kinds.proofs.Byteform.{form_length}
 use Rattle.page.specs.Form.{Summary}
 use Rattle.tree.specs.Book.{outline_record, outline}
 use Rattle.tree.specs.Laid.{Laid, data_at, directory_at, numbers, shape, below_it}
-use Rattle.tree.specs.Lawful.{Card, entry}
+use Rattle.tree.specs.Lawful.{Card}
 use Rattle.tree.specs.Standing.{Standing}
 use Rattle.tree.proofs.Standings.{corners_on, points_are, some_points, standing_low, standing_high}
 use Rattle.access.specs.Reached.{Reached}
-use Rattle.access.proofs.Reaching.{reached_points, reached_count, reached_low, reached_high, down}
 use Rattle.outlines.specs.declared.record.Sort.{Sort}
 use Rattle.outlines.specs.declared.record.Sort.TheVariants.{Data, Directory}
 use Rattle.outlines.specs.Records.{sort_number, record_of}

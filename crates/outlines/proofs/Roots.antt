@@ -1,8 +1,8 @@
 -- The outline of a lawful card, from its root.
-use Rattle.std.proofs.Common.{◌≡◌, ℕ, suc, ◌+◌, ◌*◌, ◌<◌, ◌≤◌, List, [], ◌++◌, length, take, drop, Some, None, Ok, Err, sym, refl, ap, ◌∙◌, subst, arith}
+use Rattle.std.proofs.Common.{◌≡◌, ℕ, suc, ◌+◌, ◌*◌, ◌<◌, List, [], ◌++◌, length, drop, Some, None, Ok, Err, sym, ap, ◌∙◌, subst, arith}
 use Rattle.kinds.specs.Kind.{Kind, Sound, entry_length}
-use Rattle.tree.specs.Book.{Outlines, too_short, outlined, outline, outline_of, written}
-use Rattle.tree.specs.Laid.{Laid, numbers, shape, root_shape}
+use Rattle.tree.specs.Book.{Outlines, too_short, outlined, outline, written}
+use Rattle.tree.specs.Laid.{Laid, shape, root_shape}
 use Rattle.tree.specs.Lawful.{Card, Lawful}
 use Rattle.tree.specs.Standing.{Standing}
 use Rattle.tree.specs.Tree.{count_pages}

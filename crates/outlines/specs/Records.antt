@@ -1,5 +1,5 @@
 -- The records of an outline, and bytes written into a buffer.
-use Rattle.std.specs.Prelude.{◌≡◌, ℕ, ◌+◌, ◌≤◌, List, [], ◌∷◌, ◌++◌, length, take, drop, bit_xor}
+use Rattle.std.specs.Prelude.{◌≡◌, ℕ, ◌+◌, ◌≤◌, List, ◌∷◌, ◌++◌, length, take, drop, bit_xor}
 use Rattle.std.specs.Int.Count.{count_leading_zeros}
 use Rattle.zorder.specs.Code.{code}
 use Rattle.kinds.specs.Bytes.{bytes, form}

@@ -1,14 +1,13 @@
 -- The parts of a directory page.
-use Rattle.std.proofs.Common.{◌≡◌, ℕ, zero, suc, ◌+◌, ◌-◌, ◌*◌, ◌<◌, ◌≤◌, List, [], ◌∷◌, ◌++◌, length, get_or, take, drop, replicate, sym, refl, ap, ◌∙◌, subst, append_assoc, arith, length-append, length-drop}
-use lib.ListN.{length-replicate}
+use Rattle.std.proofs.Common.{◌≡◌, ℕ, ◌+◌, ◌-◌, ◌*◌, ◌≤◌, List, ◌∷◌, ◌++◌, length, get_or, take, drop, replicate, sym, ap, ◌∙◌, append_assoc, arith, length-append, length-drop}
 use Rattle.std.proofs.lemmas.List.{take_at, take_all, drop_at}
-use Rattle.kinds.specs.Bytes.{bytes, form, size}
-use Rattle.kinds.specs.Kind.{Kind, Sound, wide, code_of}
-use Rattle.page.specs.Form.{Point, Summary}
+use Rattle.kinds.specs.Bytes.{form, size}
+use Rattle.kinds.specs.Kind.{Kind, Sound}
+use Rattle.page.specs.Form.{Summary}
 use Rattle.page.specs.Fields.{EntryFields, DirectoryFields}
 use Rattle.page.specs.Form.{View, free_view, data_view, directory_view, head_view, entry_bytes, encode}
 use Rattle.page.specs.Fields.{Small, Reads}
-use Rattle.kinds.proofs.Byteform.{form_length, bytes_length}
+use Rattle.kinds.proofs.Byteform.{form_length}
 use Rattle.page.proofs.Runs.{drop_plus, take_drop, two_first}
 
 -- the parts as the code cuts them, at a size that is the entry's

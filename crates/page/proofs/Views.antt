@@ -1,16 +1,16 @@
 -- Bytes say one thing at most.
-use Rattle.std.proofs.Common.{◌≡◌, ℕ, zero, suc, ◌+◌, ◌-◌, ◌*◌, ◌/◌, ◌%◌, ◌^◌, ◌<◌, ◌≤◌, cond, eqb, ◌≢◌, List, [], ◌∷◌, ◌++◌, length, replicate, Some, None, Option, sym, refl, ap, ◌∙◌, subst, append_assoc, arith, length-append}
+use Rattle.std.proofs.Common.{◌≡◌, ℕ, ◌-◌, ◌*◌, cond, eqb, List, [], ◌∷◌, ◌++◌, length, replicate, Some, None, Option, sym, refl, ap, ◌∙◌, append_assoc, arith, length-append}
 use Rattle.std.proofs.lemmas.Bool.{eq-eqb, cond-true}
 use lib.ListN.{length-replicate}
 use Rattle.std.specs.List.{flat_map, AllByRecursion as All}
 use Rattle.zorder.specs.Code.{OnAxes}
 use Rattle.kinds.specs.Bytes.{bytes, form, size}
 use Rattle.kinds.proofs.Byteform.{bytes_split, form_split, form_length}
-use Rattle.kinds.specs.Kind.{Kind, Sound, wide, code_of}
+use Rattle.kinds.specs.Kind.{Kind, Sound}
 use Rattle.page.specs.Form.{Point, Summary}
-use Rattle.page.specs.Fields.{DataFields, EntryFields, DirectoryFields}
+use Rattle.page.specs.Fields.{EntryFields}
 use Rattle.page.specs.Form.{View, free_view, data_view, directory_view, head_view, entry_bytes, no_entry, root_bytes, encode}
-use Rattle.page.specs.Fields.{Small, RootFields, Fields, Reads, OneViewLaw}
+use Rattle.page.specs.Fields.{Small, RootFields, Fields, OneViewLaw}
 use Rattle.page.specs.declared.entry.Entry.{Entry}
 use Rattle.page.specs.Checks.{summary, EntryRead, InEntry, EntryIs}
 

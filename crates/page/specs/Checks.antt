@@ -10,7 +10,7 @@ use Rattle.page.specs.declared.entry.Entry.{Entry}
 use Rattle.page.specs.declared.directory_page.Fork.{Fork}
 use Rattle.page.specs.declared.head_page.Head.{Head}
 use Rattle.page.specs.declared.tree_page.Node.{Node}
-use Rattle.page.specs.declared.tree_page.Node.TheVariants as tree-page
+use Rattle.page.specs.declared.tree_page.Node.TheVariants as tree_page
 use Rattle.page.specs.declared.fault.PageFault.{PageFault}
 use Rattle.page.specs.declared.fault.PageFault.TheVariants as fault
 use Rattle.page.specs.Form.{Point, Summary, View, free_view, data_view, directory_view, head_view, entry_bytes, times}
@@ -97,8 +97,8 @@ module _ {P : Type 0} (k : Kind P) where
 
   -- a page of the tree
   abbrev pub NodeRead : List ℕ → Node P → Type 0
-  NodeRead bs tree-page.Data = IsData bs
-  NodeRead bs (tree-page.Directory x) = DirectoryRead bs (Some x)
+  NodeRead bs tree_page.Data = IsData bs
+  NodeRead bs (tree_page.Directory x) = DirectoryRead bs (Some x)
 
   -- what holds of the entry that these bytes are, if they are one
   abbrev pub InEntry : List ℕ → (Summary → Type 0) → Type 0

@@ -1,5 +1,5 @@
 -- A put into a data page.
-use Rattle.std.proofs.Common.{◌≡◌, ℕ, ◌+◌, ◌-◌, ◌<◌, ◌≤◌, Bool, true, false, List, [], ◌∷◌, ◌++◌, map, length, set, Some, None, Ok, Err, Option, sym, refl, ap, ◌∙◌, subst, arith}
+use Rattle.std.proofs.Common.{◌≡◌, ℕ, ◌+◌, ◌<◌, ◌≤◌, Bool, true, false, List, [], ◌∷◌, ◌++◌, map, length, set, Some, None, Ok, Err, Option, sym, refl, ap, ◌∙◌, subst, arith}
 use Rattle.std.specs.List.{AllByRecursion as All}
 use Rattle.std.proofs.lemmas.List.{get_or-set_same, get_or-set_other, length-set}
 use Rattle.refusal.specs.declared.Refusal.TheVariants.{Live, Full}
@@ -10,7 +10,7 @@ use Rattle.page.specs.Checks.{summary}
 use Rattle.tree.specs.Sets.{live, with_point}
 use Rattle.tree.specs.Tree.{leaf, Halved}
 use Rattle.tree.specs.Laid.{data_at, directory_at}
-use Rattle.tree.specs.Lawful.{Card, page, entry}
+use Rattle.tree.specs.Lawful.{Card, entry}
 use Rattle.tree.proofs.Halves.{absent_from, all_with, length_with, rising_with}
 use Rattle.tree.proofs.Trees.{depth_some}
 use Rattle.tree.proofs.Standings.{leaf_inv}

@@ -50,19 +50,19 @@ module _ {P : Type 0} (k : Kind P) (s : Sound k) (card now : Card) (same : now �
   reads bs is = reached_reads k s card ps e above t w.reached bs is
 
   -- ---- a data page
-  module _ (bs : List ℕ) (read : bs ≡ page card e.page) (is-data : IsData k bs) where
+  module _ (bs : List ℕ) (read : bs ≡ page card e.page) (is_data : IsData k bs) where
     pub some_points : ((xs : List P) → Reads k bs (data_view (map k.coords xs)) → ⊥) → ⊥
-    some_points none = let d = leafed k s card t bs (reads bs read) is-data in none d.xs (subst (λ x. Reads k bs (view_of k x)) d.is (reads bs read))
+    some_points none = let d = leafed k s card t bs (reads bs read) is_data in none d.xs (subst (λ x. Reads k bs (view_of k x)) d.is (reads bs read))
 
     pub points_are : (pts : List P) → ((xs : List P) → Reads k bs (data_view (map k.coords xs)) → pts ≡ xs) → (q : ℕ) × (t ≡ data_at q pts)
     points_are pts tells =
-        let d = leafed k s card t bs (reads bs read) is-data in
+        let d = leafed k s card t bs (reads bs read) is_data in
         (d.q, d.is ∙ ap (data_at d.q) (sym (tells d.xs (subst (λ x. Reads k bs (view_of k x)) d.is (reads bs read)))))
 
   -- ---- a directory page
-  module _ (bs : List ℕ) (n : ℕ) (low high : Summary) (read : bs ≡ page card e.page) (is-fork : Reads k bs (directory_view n low high)) where
+  module _ (bs : List ℕ) (n : ℕ) (low high : Summary) (read : bs ≡ page card e.page) (is_fork : Reads k bs (directory_view n low high)) where
     abbrev f : Forked k s card n low high t
-    f = forked k s card t bs n low high (reads bs read) is-fork
+    f = forked k s card t bs n low high (reads bs read) is_fork
 
     abbrev fork : Laid P
     fork = directory_at f.q n f.l f.h

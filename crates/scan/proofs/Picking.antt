@@ -1,5 +1,5 @@
 -- A point that was picked stays a point of the window.
-use Rattle.std.proofs.Common.{◌≡◌, ℕ, Bool, true, false, T, List, [], ◌∷◌, ◌++◌, is_some, Some, None, Option, sym, refl, ap, ◌∙◌, subst, arith}
+use Rattle.std.proofs.Common.{T, List, ◌++◌, is_some, Some, None, Option}
 use Rattle.std.proofs.ByRecursion.{has_append_left}
 use Rattle.tree.specs.Book.{PicksFrom}
 

@@ -1,5 +1,5 @@
 -- The walk on a card that shows the tree of a set.
-use Rattle.std.proofs.Common.{◌≡◌, ℕ, zero, suc, ◌+◌, ◌^◌, ◌<◌, ◌≤◌, Bool, true, false, ◌&&◌, List, [], ◌∷◌, ◌++◌, length, Some, Ok, Err, MatchBool, filter, Result, sym, refl, ap, ◌∙◌, subst, append_assoc, arith, length-append, MatchResult}
+use Rattle.std.proofs.Common.{◌≡◌, ℕ, suc, ◌+◌, ◌^◌, ◌<◌, ◌≤◌, Bool, true, false, ◌&&◌, List, [], ◌∷◌, ◌++◌, length, Some, Ok, Err, MatchBool, filter, Result, sym, ap, ◌∙◌, subst, append_assoc, arith, length-append, MatchResult}
 use Rattle.std.proofs.lemmas.Bool.{cond_both}
 use Rattle.zorder.specs.Halves.{half}
 use Rattle.kinds.specs.Kind.{Kind, Sound, wide, code_of}

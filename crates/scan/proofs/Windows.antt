@@ -1,5 +1,5 @@
 -- Windows over the points below an entry.
-use Rattle.std.proofs.Common.{◌≡◌, ℕ, zero, suc, ◌+◌, ◌<◌, ◌≤◌, Bool, true, false, cond, ◌&&◌, T, ◌⊎◌, List, [], ◌∷◌, ◌++◌, map, length, ℤ, ◌≤ℤ◌, filter, sym, refl, ap, ◌∙◌, subst, ap₂, inl, inr, ⊎_elim, append_assoc, arith}
+use Rattle.std.proofs.Common.{◌≡◌, ℕ, Bool, true, false, cond, ◌&&◌, T, List, [], ◌∷◌, ◌++◌, map, ℤ, filter, sym, refl, ap, ◌∙◌, subst, ⊎_elim}
 use lib.Signed.{le_z, le_z_yes}
 use Rattle.std.specs.List.{AllByRecursion as All}
 use Rattle.std.proofs.lemmas.List.Elements.{filter-append}
@@ -9,7 +9,7 @@ use Rattle.zorder.specs.Code.{Axis, OnAxes}
 use Rattle.zorder.specs.Sharing.{Under, Inside}
 use Rattle.zorder.specs.Halves.{half}
 use Rattle.zorder.proofs.Corners.{Two, no_axes, two, both, all_unmap, all_and, under_then, window_law}
-use Rattle.kinds.specs.Kind.{Kind, Sound, On, wide, code_of, low_corner, high_corner}
+use Rattle.kinds.specs.Kind.{Kind, On, wide, code_of, low_corner, high_corner}
 use Rattle.page.specs.Form.{Summary}
 use Rattle.tree.specs.Book.{no_higher, windowed}
 use Rattle.tree.proofs.Halves.{Parted, parted_join}

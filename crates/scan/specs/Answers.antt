@@ -1,8 +1,8 @@
 -- What a call on a window answers on any card.
-use Rattle.std.specs.Prelude.{◌≡◌, ℕ, ◌⊎◌, Some, None, Ok, Err, Option, Result}
+use Rattle.std.specs.Prelude.{◌≡◌, ◌⊎◌, Some, None, Ok, Err, Option, Result}
 use Rattle.refusal.specs.declared.Refusal.{Refusal}
 use Rattle.refusal.specs.Numbers.{number}
-use Rattle.zorder.specs.Sharing.{Under, Inside}
+use Rattle.zorder.specs.Sharing.{Inside}
 use Rattle.kinds.specs.Kind.{Kind, On}
 use Rattle.query.specs.declared.window.Window.{Window}
 use Rattle.query.specs.Windows.{Whole, Checked}

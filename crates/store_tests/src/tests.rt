@@ -216,11 +216,10 @@ fn a_loan_is_a_store(rt: HostRuntime) -> Result<(), Fail> {
 #[test]
 fn faults_in_words(rt: HostRuntime) -> Result<(), Fail> {
     let fault = StoreFault::NoPage(12);
-    assert_eq!(rt; format!(in rt.alloc(); "{fault}")?, "there is no page 12");
+    let said = format!(in rt.alloc(); "{fault}")?;
+    assert_eq!(rt; said.as_str(), "there is no page 12");
     let fault = StoreFault::BadBuffer(0);
-    assert_eq!(rt;
-        format!(in rt.alloc(); "{fault}")?,
-        "the buffer for page 0 is not 64 bytes long"
-    );
+    let said = format!(in rt.alloc(); "{fault}")?;
+    assert_eq!(rt; said.as_str(), "the buffer for page 0 is not 64 bytes long");
     Ok(())
 }

@@ -124,11 +124,11 @@ module _ {P : Type 0} (k : Kind P) (p : P) (q n : ℕ) (l h : Laid P) (b : ℕ) 
         let part = parted k s n ps st.is_set i.0 i.1 in
         by_bit (λ b. Shrinks C W B p (chosen b l h) (Some m) freed → bit_at W n (C p) ≡ b → (below_it (chosen b m l) ++ below_it (chosen b h m) ≡ without_point C p ps) × (1 ≤ length (below_it (chosen b m l))) × (1 ≤ length (below_it (chosen b h m))))
         (λ sh z.
-        let m-is = left_half k s p n 0 ps m freed (chosen 0 l h) up sh i.2 z on in
+        let m_is = left_half k s p n 0 ps m freed (chosen 0 l h) up sh i.2 z on in
         let eh = halved_points C W B s.room (half C W n 1 ps) (shape h) i.3 (half_rising C W n 1 ps up) in
-        (ap₂ (λ (a b : List P). a ++ b) m-is.0 eh ∙ left_low C W p n ps up part z, m-is.1, subst (λ xs. 1 ≤ length xs) (sym eh) (halved_some C W B i.3)))
+        (ap₂ (λ (a b : List P). a ++ b) m_is.0 eh ∙ left_low C W p n ps up part z, m_is.1, subst (λ xs. 1 ≤ length xs) (sym eh) (halved_some C W B i.3)))
         (λ sh z.
-        let m-is = left_half k s p n 1 ps m freed (chosen 1 l h) up sh i.3 z on in
+        let m_is = left_half k s p n 1 ps m freed (chosen 1 l h) up sh i.3 z on in
         let el = halved_points C W B s.room (half C W n 0 ps) (shape l) i.2 (half_rising C W n 0 ps up) in
-        (ap₂ (λ (a b : List P). a ++ b) el m-is.0 ∙ left_high C W p n ps up part z, subst (λ xs. 1 ≤ length xs) (sym el) (halved_some C W B i.2), m-is.1))
+        (ap₂ (λ (a b : List P). a ++ b) el m_is.0 ∙ left_high C W p n ps up part z, subst (λ xs. 1 ≤ length xs) (sym el) (halved_some C W B i.2), m_is.1))
         b two sh is

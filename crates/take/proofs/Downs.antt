@@ -55,7 +55,7 @@ module _ {P : Type 0} (k : Kind P) (s : Sound k) (card : Card) (ps : List P) (e 
 
       -- a point that does not share the first bits is not live
       pub below_absent : (p : P) → On k p → On k e.low → (z : ℕ) → z ≡ count_leading_zeros (wide k) (bit_xor (code_of k e.low) (code_of k p)) → z < x.depth → live (code_of k) p ps ≡ false
-      below_absent p on low_on z z-is lt =
+      below_absent p on low_on z z_is lt =
           let deep = d.fields.0.shallow in
           let ne : first (wide k) x.depth (code_of k e.low) ≡ first (wide k) x.depth (code_of k p) → ⊥ =
           λ same. let a = agree_zeros (wide k) _ _ x.depth (code_of_lt k s e.low low_on) (code_of_lt k s p on) (omega arith) same in omega arith in
@@ -68,7 +68,7 @@ module _ {P : Type 0} (k : Kind P) (s : Sound k) (card : Card) (ps : List P) (e 
       -- else its half goes on
       pub fork_case : (F : Laid P → Type 0) (bit : ℕ) (p : P) → On k p → On k e.low → (z : ℕ) → z ≡ count_leading_zeros (wide k) (bit_xor (code_of k e.low) (code_of k p)) → x.depth ≤ z → bit_at (wide k) x.depth (code_of k p) ≡ bit
           → ((q : ℕ) (l h : Laid P) → Divided k card ps e above x bit p q l h → F (directory_at q x.depth l h)) → F t
-      fork_case F bit p on low_on z z-is le b next =
+      fork_case F bit p on low_on z z_is le b next =
           let same = zeros_agree (wide k) _ _ x.depth (code_of_lt k s e.low low_on) (code_of_lt k s p on) (omega arith) in
           let f = forked k s card t bs _ _ _ reads d in
           let w' = subst (Shrinking k card ps (summary k e) above) f.is w in

@@ -131,7 +131,7 @@ module _ {P : Type 0} (k : Kind P) (s : Sound k) (card : Card) (ps : List P) (e 
           })
 
   -- ---- both halves are data pages
-  module _ (few : length ps ≤ k.capacity + 1) (own other : Entry P) (own_is : own ≡ chosen bit x.low x.high) (other-is : other ≡ chosen bit x.high x.low) where
+  module _ (few : length ps ≤ k.capacity + 1) (own other : Entry P) (own_is : own ≡ chosen bit x.low x.high) (other_same : other ≡ chosen bit x.high x.low) where
     own_stands : Standing k card (half (code_of k) (wide k) x.depth bit ps) (chosen bit l h)
     own_stands = (down_own own own_is).reached.stands
 
@@ -162,7 +162,7 @@ module _ {P : Type 0} (k : Kind P) (s : Sound k) (card : Card) (ps : List P) (e 
     own_page = ap (λ y. y.page) (own_entry own own_is)
 
     other_page : other.page ≡ number (chosen bit h l)
-    other_page = ap (λ y. y.page) (other_entry other other-is)
+    other_page = ap (λ y. y.page) (other_entry other other_same)
 
     own_there : own.page < length card
     own_there = subst (λ i. i < length card) (sym own_page) (standing_there k s card _ (chosen bit l h) own_stands)
@@ -193,7 +193,7 @@ module _ {P : Type 0} (k : Kind P) (s : Sound k) (card : Card) (ps : List P) (e 
     pair_gone on none =
         let sub = leaf_gone k card (below_it (chosen bit l h)) p (number (chosen bit l h)) on none in
         let there = subst (λ t. Shrunk k card (below_it (chosen bit l h)) p t (Gone (number (chosen bit l h))) card) (sym own_leaf) sub in
-        up_gone own.page card other (other_entry other other-is)
+        up_gone own.page card other (other_entry other other_same)
         (subst (λ i. Shrunk k card (half (code_of k) (wide k) x.depth bit ps) p (chosen bit l h) (Gone i) card) (sym own_page)
         (subst (λ xs. Shrunk k card xs p (chosen bit l h) (Gone (number (chosen bit l h))) card) (points_are k s card _ (chosen bit l h) own_stands) there))
 

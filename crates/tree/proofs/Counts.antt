@@ -1,7 +1,7 @@
 -- Each page once: counts of page numbers.
-use Rattle.std.proofs.Common.{◌≡◌, ℕ, zero, suc, ◌+◌, ◌<◌, ◌≤◌, Bool, true, false, cond, ◌&&◌, eqb, ltb, leb, ◌≢◌, ◌⊎◌, List, [], ◌∷◌, ◌++◌, length, sym, refl, ap, ◌∙◌, subst, inl, inr, ⊎_elim, arith}
+use Rattle.std.proofs.Common.{◌≡◌, ℕ, zero, suc, ◌+◌, ◌<◌, ◌≤◌, cond, ◌&&◌, eqb, ltb, leb, ◌≢◌, List, [], ◌∷◌, ◌++◌, length, sym, refl, ap, ◌∙◌, ⊎_elim, arith}
 use Rattle.std.specs.List.{AllByRecursion as All}
-use Rattle.std.proofs.lemmas.Bool.{cases_eq, cases_lt, cases_Bool, and_right, and_from, le-ltb, le-leb, lt-ltb, eq-eqb, ne_eqb, cond-true, cond-false, cond_both}
+use Rattle.std.proofs.lemmas.Bool.{cases_eq, cases_lt, and_right, and_from, le-ltb, le-leb, lt-ltb, eq-eqb, ne_eqb, cond-true, cond-false, cond_both}
 use Rattle.page.specs.Form.{times}
 
 pub one_same : (q r : ℕ) → q ≡ r → ◌≡◌ {A = ℕ} (cond (eqb q r) 1 0) 1

@@ -1,20 +1,17 @@
 -- The worked example, by computation.
-use Rattle.std.proofs.Common.{◌≡◌, ℕ, zero, suc, ◌+◌, ◌^◌, ◌<◌, ◌≤◌, Bool, true, false, cond, ◌&&◌, eqb, ltb, leb, ◌⊎◌, List, [], ◌∷◌, ◌++◌, map, length, ℤ, pos, Some, None, sym, refl, ap, ◌∙◌, subst, inl, inr, ⊎_elim, arith, lit<, lit≤}
+use Rattle.std.proofs.Common.{◌≡◌, ℕ, zero, suc, ◌+◌, ◌<◌, ◌≤◌, Bool, true, false, cond, ◌&&◌, ltb, leb, List, [], ◌∷◌, map, Some, sym, refl, subst, arith, lit≤}
 use Rattle.std.specs.List.{range_with_len, AllByRecursion as All}
 use Rattle.std.proofs.lemmas.Int.{ints}
 use Rattle.std.proofs.ByRecursion.{All-weaker, All-map}
-use Rattle.std.proofs.lemmas.Bool.{ltb-true, and_left, and_right, cases_lt}
+use Rattle.std.proofs.lemmas.Bool.{ltb-true}
 use Rattle.zorder.specs.Code.{woven}
 use Rattle.zorder.specs.Halves.{half, Rising}
-use Rattle.kinds.specs.declared.lay.LayPoint.{LayPoint}
 use Rattle.kinds.specs.Kind.{On, wide, code_of}
 use Rattle.kinds.specs.Lay.{lay_kind}
 use Rattle.page.specs.Form.{times}
 use Rattle.tree.specs.Sets.{IsSet}
 use Rattle.tree.specs.Tree.{leaf, node, Depth, halves, one_page, TreeOf}
-use Rattle.tree.specs.Laid.{numbers}
-use Rattle.tree.specs.Lawful.{Lawful}
-use Rattle.tree.specs.Example.{row, example_tree, example_card, Example}
+use Rattle.tree.specs.Example.{row, example_tree, Example}
 use Rattle.tree.proofs.Counts.{past_range, one_other}
 
 -- codes that rise from one to the next rise altogether

@@ -1,14 +1,11 @@
 -- Halves of sets, and sets with and without a point.
-use Rattle.std.proofs.Common.{◌≡◌, ℕ, zero, suc, ◌+◌, ◌-◌, ◌/◌, ◌%◌, ◌^◌, ◌<◌, ◌≤◌, Bool, true, false, cond, not, eqb, ltb, ◌⊎◌, List, [], ◌∷◌, ◌++◌, map, length, filter, sym, refl, ap, ◌∙◌, subst, inl, inr, ⊎_elim, mod-lt, div-one, arith, lit<, length-append}
-use native.Mathlib.Decide.{ℕ_discrete}
+use Rattle.std.proofs.Common.{◌≡◌, ℕ, suc, ◌+◌, ◌-◌, ◌/◌, ◌^◌, ◌<◌, ◌≤◌, Bool, true, false, cond, eqb, ltb, ◌⊎◌, List, [], ◌∷◌, ◌++◌, map, length, filter, sym, refl, ap, ◌∙◌, subst, inl, inr, ⊎_elim, mod-lt, div-one, arith, lit<, length-append}
 use lib.Arith.{lt_of_le-ne}
 use Rattle.std.specs.List.{AllByRecursion as All}
 use Rattle.std.proofs.lemmas.Bool.{cases_eq, cases_lt, cases_Bool, both_ways, eq-eqb, ne_eqb, eqb-true, eqb-false, ltb-true, ltb-false, lt-ltb, le-ltb, cond-true, cond-false, cond_both, not_from_true, not_from_false}
 use Rattle.std.proofs.ByRecursion.{all_kept_by, kept_by_passes, All-weaker, All-map}
 use Rattle.zorder.specs.Code.{first, bit_at}
-use Rattle.zorder.specs.Sharing.{Common}
 use Rattle.zorder.specs.Halves.{half, Rising}
-use Rattle.zorder.proofs.Corners.{all_and}
 use Rattle.zorder.proofs.Halving.{halves_join}
 use Rattle.tree.specs.Sets.{live, with_point, without_point}
 use Rattle.tree.specs.Tree.{Depth}

@@ -1,27 +1,25 @@
 -- The laws of trees and lawful cards, proved.
-use Rattle.std.proofs.Common.{◌≡◌, ℕ, zero, suc, ◌+◌, ◌-◌, ◌*◌, ◌/◌, ◌^◌, ◌<◌, ◌≤◌, Bool, true, false, cond, not, ◌&&◌, eqb, ◌⊎◌, List, [], ◌∷◌, ◌++◌, map, length, ℤ, Some, None, filter, Option, sym, refl, ap, ◌∙◌, subst, ap₂, inl, inr, ⊎_elim, arith, length-append}
+use Rattle.std.proofs.Common.{◌≡◌, ℕ, suc, ◌+◌, ◌-◌, ◌/◌, ◌^◌, ◌<◌, ◌≤◌, Bool, true, false, not, eqb, ◌⊎◌, List, [], ◌∷◌, map, length, Some, None, filter, Option, sym, refl, ap, ◌∙◌, subst, ap₂, inl, inr, ⊎_elim, arith, length-append}
 use native.Mathlib.Nat.{div-eq_of_lt}
-use lib.Bits.{bit_xor}
-use lib.Count.{count_leading_zeros}
 use Rattle.std.specs.List.{ContainsAt as Has, AllByRecursion as All}
-use Rattle.std.proofs.lemmas.Bool.{cases_eq, cases_Bool, both_ways, eq-eqb, ne_eqb, eqb-true, eqb-false, and_from, and_left, and_right, cond-true, cond-false, cond_both, not_from_true, not_from_false}
+use Rattle.std.proofs.lemmas.Bool.{cases_Bool, both_ways, eq-eqb, ne_eqb, eqb-true, eqb-false, and_from, and_left, cond-true, cond-false, cond_both, not_from_true, not_from_false}
 use Rattle.std.proofs.ByRecursion.{All-weaker, All-map, all-has, all_has_itself, has_append_left, has_append_right, has_push, all_kept_by, kept_by_passes}
-use Rattle.zorder.specs.Code.{OnAxes, code, first, bit_at}
-use Rattle.zorder.specs.Halves.{half, Rising}
+use Rattle.zorder.specs.Code.{first, bit_at}
+use Rattle.zorder.specs.Halves.{half}
 use Rattle.zorder.proofs.Corners.{code_lt, one_point_law, all_and}
 use Rattle.zorder.proofs.Halving.{common_one, common_most}
 use Rattle.zorder.proofs.Shared.{bit_next}
 use Rattle.kinds.specs.Kind.{Kind, Sound, On, Whether, wide, code_of, low_corner, high_corner}
 use Rattle.kinds.proofs.Telling.{corner_depth}
-use Rattle.page.specs.Form.{Summary, View, data_view, directory_view, head_view, encode}
+use Rattle.page.specs.Form.{Summary, head_view}
 use Rattle.page.specs.Fields.{Reads}
 use Rattle.page.proofs.Views.{one_view_law}
-use Rattle.tree.specs.Sets.{IsSet, live, with_point, without_point}
-use Rattle.tree.specs.Tree.{Tree, leaf, node, points, data_pages, directory_pages, Depth, Halved, one_page, halves, TreeOf, OptionalTreeOf, count_pages}
-use Rattle.tree.specs.Laid.{Laid, data_at, directory_at, number, numbers, shape, below_it, root_shape, root_numbers, agrees, way, way_end}
-use Rattle.tree.specs.Lawful.{Card, page, entry, root_entry, front, Lawful}
+use Rattle.tree.specs.Sets.{IsSet, live, with_point}
+use Rattle.tree.specs.Tree.{Tree, Depth, TreeOf, OptionalTreeOf, count_pages}
+use Rattle.tree.specs.Laid.{Laid, data_at, directory_at, number, shape, below_it, root_shape, root_numbers, agrees, way, way_end}
+use Rattle.tree.specs.Lawful.{Card, page, entry, root_entry, front}
 use Rattle.tree.specs.Standing.{view_of, Standing}
-use Rattle.tree.specs.Laws.{OneTreeLaw, PointsLaw, PageLaw, CountLaw, DepthLaw, OneSetLaw, WholeCardLaw, WayLaw, ShortWayLaw, SetLaw, SetWith}
+use Rattle.tree.specs.Laws.{OneTreeLaw, PointsLaw, PageLaw, CountLaw, DepthLaw, OneSetLaw, WholeCardLaw, WayLaw, ShortWayLaw, SetLaw}
 use Rattle.tree.proofs.Halves.{half_live, half_all, Parted, not_one, absent_from, all_with, all_with_out, rising_with, rising_kept}
 use Rattle.tree.proofs.Trees.{data_more, halved_one, halved_exists, halved_some, halved_points}
 use Rattle.tree.proofs.Standings.{leaf_inv, node_inv, set_half, parted, few_points, laid_pages, points_are, standing_low, standing_high, standing_reads, root_standing, head_reads, whole}

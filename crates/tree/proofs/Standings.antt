@@ -1,28 +1,27 @@
 -- What stands on a lawful card, page by page.
-use Rattle.std.proofs.Common.{◌≡◌, ℕ, zero, suc, ◌+◌, ◌-◌, ◌*◌, ◌^◌, ◌<◌, ◌≤◌, Bool, true, false, cond, ◌&&◌, eqb, ltb, leb, ◌≢◌, ◌⊎◌, List, [], ◌∷◌, ◌++◌, map, length, get_or, ℤ, Some, None, Option, sym, refl, ap, ◌∙◌, subst, inl, inr, ⊎_elim, mul-le-mul_right, mul-le-mul_left, mul-add, arith, length-append}
-use Rattle.std.specs.List.{ContainsAt as Has, AllByRecursion as All}
+use Rattle.std.proofs.Common.{◌≡◌, ℕ, suc, ◌+◌, ◌*◌, ◌^◌, ◌<◌, ◌≤◌, ◌≢◌, ◌⊎◌, List, [], ◌∷◌, ◌++◌, map, length, Some, None, Option, sym, refl, ap, ◌∙◌, subst, inl, inr, ⊎_elim, mul-le-mul_right, mul-add, arith, length-append}
+use Rattle.std.specs.List.{AllByRecursion as All}
 use Rattle.std.proofs.lemmas.List.{get_or_past}
 use Rattle.std.proofs.ByRecursion.{All-weaker, All-map}
-use Rattle.zorder.specs.Code.{OnAxes, code, first, bit_at}
-use Rattle.zorder.specs.Sharing.{Under, least_corner, greatest_corner}
-use Rattle.zorder.specs.Halves.{half, Rising}
+use Rattle.zorder.specs.Code.{OnAxes, code, first}
+use Rattle.zorder.specs.Sharing.{Under}
+use Rattle.zorder.specs.Halves.{half}
 use Rattle.std.specs.Int.{int_min}
 use Rattle.std.proofs.lemmas.Bool.{cases_lt}
 use Rattle.zorder.proofs.Corners.{window_law, under_then, corner_agrees, min_one}
-use Rattle.kinds.specs.Bytes.{bytes, form}
 use Rattle.kinds.specs.Kind.{Kind, Sound, On, wide, code_of, low_corner, high_corner}
 use Rattle.kinds.proofs.Byteform.{bytes_split}
-use Rattle.page.specs.Form.{Summary, View, free_view, data_view, directory_view, head_view, entry_bytes, no_entry, encode, times}
-use Rattle.page.specs.Fields.{DataFields, EntryFields, DirectoryFields, Small, RootFields, Fields, Reads}
+use Rattle.page.specs.Form.{Summary, View, head_view, entry_bytes, no_entry, encode}
+use Rattle.page.specs.Fields.{EntryFields, Small, RootFields, Fields, Reads}
 use Rattle.page.proofs.Writing.{length_coords}
 use Rattle.tree.specs.Sets.{IsSet}
-use Rattle.tree.specs.Tree.{Tree, leaf, node, points, data_pages, directory_pages, Depth, Halved, one_page, halves, TreeOf, OptionalTreeOf, count_pages}
+use Rattle.tree.specs.Tree.{Tree, leaf, node, data_pages, directory_pages, Depth, one_page, halves, TreeOf, OptionalTreeOf}
 use Rattle.tree.specs.Laid.{Laid, data_at, directory_at, number, numbers, shape, below_it, root_shape, root_numbers}
-use Rattle.tree.specs.Lawful.{Card, page, Part, entry, face, parts, root_parts, Holds, Shows, root_entry, front, Chained, Lawful}
+use Rattle.tree.specs.Lawful.{Card, page, entry, parts, root_parts, Holds, Shows, root_entry, front, Lawful}
 use Rattle.tree.specs.Standing.{view_of, Standing}
 use Rattle.tree.proofs.Halves.{half_all, half_rising, Parted, depth_parted, parted_count}
-use Rattle.tree.proofs.Trees.{data_more, halved_some, halved_points}
-use Rattle.tree.proofs.Counts.{times_append, inside, pages_count}
+use Rattle.tree.proofs.Trees.{halved_some, halved_points}
+use Rattle.tree.proofs.Counts.{inside, pages_count}
 
 pub all_front : {X : Type 0} (A : X → Type 0) (xs ys : List X) → All A (xs ++ ys) → All A xs
 all_front A [] ys h = tt
@@ -161,8 +160,8 @@ module _ {P : Type 0} (k : Kind P) where
     corner_front n v (p ∷ ps) le some on h =
         let A = k.axes in
         let all = All-map (OnAxes A) k.coords (p ∷ ps) on in
-        let to-p = All-map (λ z. first (wide k) n (code A (k.coords p)) ≡ first (wide k) n (code A z)) k.coords ps (All-weaker _ _ (λ q e. h.0 ∙ sym e) ps h.1) in
-        sym (corner_agrees int_min min_one A laws.narrow (k.coords p) (map k.coords ps) all n le to-p) ∙ h.0
+        let to_p = All-map (λ z. first (wide k) n (code A (k.coords p)) ≡ first (wide k) n (code A z)) k.coords ps (All-weaker _ _ (λ q e. h.0 ∙ sym e) ps h.1) in
+        sym (corner_agrees int_min min_one A laws.narrow (k.coords p) (map k.coords ps) all n le to_p) ∙ h.0
 
     -- ---- a tree has at most b points to a data page
     pub few_points : (ps : List P) (t : Tree P) → TreeOf k ps t → IsSet k ps → length ps ≤ k.capacity * data_pages t

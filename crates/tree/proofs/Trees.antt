@@ -1,18 +1,17 @@
 -- Each set of points that is not empty has one tree.
-use Rattle.std.proofs.Common.{◌≡◌, ℕ, zero, suc, ◌+◌, ◌-◌, ◌/◌, ◌%◌, ◌^◌, ◌<◌, ◌≤◌, ◌⊎◌, List, [], ◌∷◌, ◌++◌, map, length, sym, refl, ap, ◌∙◌, subst, ap₂, inl, inr, ⊎_elim, arith, length-append}
+use Rattle.std.proofs.Common.{◌≡◌, ℕ, zero, suc, ◌-◌, ◌^◌, ◌<◌, ◌≤◌, List, [], ◌∷◌, ◌++◌, map, length, sym, refl, ◌∙◌, subst, ap₂, ⊎_elim, arith}
 use lib.Bits.{bit_xor}
-use lib.Count.{count_leading_zeros, leading_le}
+use lib.Count.{count_leading_zeros}
 use Rattle.std.specs.List.{AllByRecursion as All}
 use Rattle.std.proofs.lemmas.Bool.{cases_lt}
 use Rattle.std.proofs.ByRecursion.{All-weaker, All-map}
 use Rattle.zorder.specs.Code.{first, bit_at}
-use Rattle.zorder.specs.Sharing.{Common}
 use Rattle.zorder.specs.Halves.{half, Rising}
 use Rattle.zorder.proofs.Corners.{all_and}
 use Rattle.zorder.proofs.Shared.{between, shares_zeros}
 use Rattle.zorder.proofs.Halving.{common_one}
 use Rattle.tree.specs.Tree.{Tree, leaf, node, points, Depth, Halved, one_page, halves, data_pages, directory_pages}
-use Rattle.tree.proofs.Halves.{all_unmap, half_rising, half_all, Parted, depth_parted, parted_depth, parted_join, parted_count}
+use Rattle.tree.proofs.Halves.{all_unmap, half_rising, half_all, depth_parted, parted_join, parted_count}
 
 -- one data page more than directory pages
 pub data_more : {P : Type 0} (t : Tree P) → data_pages t ≡ suc (directory_pages t)

@@ -1,12 +1,12 @@
 -- The plain book: a set of points, the number of pages of the card, and what each call answers from these and its arguments alone. Refusals are their numbers; the book never answers 9.
-use Rattle.std.specs.Prelude.{◌≡◌, ℕ, suc, ◌+◌, ◌<◌, ◌≤◌, Bool, true, false, ◌&&◌, List, [], ◌∷◌, ◌++◌, length, take, drop, ℤ, Some, None, Ok, Err, filter, Option, Result, bit_xor, int_le}
+use Rattle.std.specs.Prelude.{◌≡◌, ℕ, suc, ◌+◌, ◌<◌, ◌≤◌, Bool, true, ◌&&◌, List, [], ◌∷◌, ◌++◌, length, take, drop, ℤ, Some, None, Ok, Err, filter, Option, Result, bit_xor, int_le}
 use Rattle.std.specs.Int.Count.{count_leading_zeros}
 use Rattle.std.specs.List.{ContainsAt as Has}
 use Rattle.zorder.specs.Code.{code}
 use Rattle.zorder.specs.Sharing.{Under}
 use Rattle.kinds.specs.Bytes.{bytes, form}
 use Rattle.kinds.specs.Kind.{Kind, On, Whether, wide, code_of, low_corner, high_corner}
-use Rattle.tree.specs.Sets.{with_point, without_point}
+use Rattle.tree.specs.Sets.{with_point}
 use Rattle.tree.specs.Tree.{Tree, leaf, node, points, OptionalTreeOf, count_pages, count_data, count_directories}
 
 -- no coordinate is above that of the other point
@@ -92,11 +92,11 @@ module _ {P : Type 0} (k : Kind P) where
     Counts ps n = n ≡ length ps
 
     -- Tally: points, data pages, directory pages and free pages; with the head these pages are all.
-    pub record Tallies (points data_pages directory_pages free-pages : ℕ) : Type 0 where
+    pub record Tallies (points data_pages directory_pages free_pages : ℕ) : Type 0 where
       pub all_points : points ≡ length set
       pub all_data : (o : Option (Tree P)) → OptionalTreeOf k set o → data_pages ≡ count_data o
       pub all_directories : (o : Option (Tree P)) → OptionalTreeOf k set o → directory_pages ≡ count_directories o
-      pub all_pages : (o : Option (Tree P)) → OptionalTreeOf k set o → suc (count_pages o + free-pages) ≡ total
+      pub all_pages : (o : Option (Tree P)) → OptionalTreeOf k set o → suc (count_pages o + free_pages) ≡ total
 
     -- Outline: 7 if the buffer is too short, else the bytes of the outline at its front.
     pub data Outlines (before : List ℕ) : Result ℕ ℕ → List ℕ → Type 0 where

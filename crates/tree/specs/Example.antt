@@ -1,10 +1,10 @@
 -- A worked example: sixteen lay points, courses 0 to 15 at shog 0, on a card of four pages.
-use Rattle.std.specs.Prelude.{ℕ, List, [], ◌∷◌, map, ℤ, pos, Some, None}
+use Rattle.std.specs.Prelude.{ℕ, List, [], ◌∷◌, map, pos, Some}
 use Rattle.std.specs.List.{range_with_len}
 use Rattle.kinds.specs.declared.lay.LayPoint.{LayPoint}
 use Rattle.kinds.specs.Lay.{lay_kind}
 use Rattle.page.specs.Form.{head_view, encode}
-use Rattle.tree.specs.Tree.{Tree, leaf, node, TreeOf}
+use Rattle.tree.specs.Tree.{leaf, node, TreeOf}
 use Rattle.tree.specs.Laid.{Laid, data_at, directory_at}
 use Rattle.tree.specs.Lawful.{Card, entry, face, Lawful}
 

@@ -1,5 +1,5 @@
 -- Laid trees: trees with a page number at each part. Which pages they use, and the way of a point.
-use Rattle.std.specs.Prelude.{ℕ, Bool, true, false, cond, ◌&&◌, List, [], ◌∷◌, ◌++◌, Some, None, Option, ◌==◌}
+use Rattle.std.specs.Prelude.{ℕ, Bool, true, cond, ◌&&◌, List, [], ◌∷◌, ◌++◌, Some, None, Option, ◌==◌}
 use Rattle.zorder.specs.Code.{first, bit_at}
 use Rattle.kinds.specs.Kind.{Kind, wide, code_of}
 use Rattle.tree.specs.Tree.{Tree, leaf, node, points}

@@ -1,11 +1,11 @@
 -- Lawful cards.
-use Rattle.std.specs.Prelude.{◌≡◌, ℕ, zero, suc, ◌+◌, ◌-◌, ◌<◌, ◌≤◌, Bool, true, false, cond, ◌&&◌, List, [], ◌∷◌, ◌++◌, map, length, Some, None, Option, nat_le, nat_lt, slice_index_or}
+use Rattle.std.specs.Prelude.{◌≡◌, ℕ, ◌+◌, ◌-◌, ◌≤◌, cond, ◌&&◌, List, [], ◌∷◌, ◌++◌, map, length, Some, None, Option, nat_le, nat_lt, slice_index_or}
 use Rattle.std.specs.List.{AllByRecursion as All, range_with_len}
 use Rattle.kinds.specs.Kind.{Kind, low_corner, high_corner}
 use Rattle.page.specs.Form.{Summary, free_view, data_view, directory_view, head_view, encode, times}
 use Rattle.tree.specs.Sets.{IsSet}
 use Rattle.tree.specs.Tree.{OptionalTreeOf}
-use Rattle.tree.specs.Laid.{Laid, data_at, directory_at, number, numbers, below_it, root_shape, root_numbers}
+use Rattle.tree.specs.Laid.{Laid, data_at, directory_at, number, below_it, root_shape, root_numbers}
 
 -- A card is the list of its pages, each the list of its bytes.
 abbrev pub Card : Type 0

@@ -1,12 +1,12 @@
 -- The laws of trees and lawful cards, for every kind.
-use Rattle.std.specs.Prelude.{◌≡◌, ℕ, suc, ◌+◌, ◌*◌, ◌^◌, ◌<◌, ◌≤◌, Bool, true, false, ◌⊎◌, List, [], ◌∷◌, ◌++◌, length, Some, None, Option, ◌≢◌, bit_xor}
+use Rattle.std.specs.Prelude.{◌≡◌, ℕ, suc, ◌+◌, ◌*◌, ◌≤◌, false, ◌⊎◌, List, length, Option, ◌≢◌, bit_xor}
 use Rattle.std.specs.Int.Count.{count_leading_zeros}
-use Rattle.std.specs.List.{ContainsAt as Has, AllByRecursion as All}
+use Rattle.std.specs.List.{ContainsAt as Has}
 use Rattle.zorder.specs.Code.{code}
 use Rattle.kinds.specs.Kind.{Kind, Sound, On, Whether, wide, code_of, low_corner, high_corner}
 use Rattle.tree.specs.Sets.{IsSet, live, with_point, without_point}
-use Rattle.tree.specs.Tree.{Tree, leaf, node, points, TreeOf, OptionalTreeOf, data_pages, directory_pages, count_pages}
-use Rattle.tree.specs.Laid.{Laid, numbers, shape, root_shape, way, way_end}
+use Rattle.tree.specs.Tree.{Tree, node, points, TreeOf, OptionalTreeOf, data_pages, directory_pages, count_pages}
+use Rattle.tree.specs.Laid.{Laid, shape, root_shape, way, way_end}
 use Rattle.tree.specs.Lawful.{Card, Lawful}
 
 -- Every set has exactly one tree.

@@ -1,5 +1,5 @@
 -- Sets of points, as the lists of their points in strictly rising code. So two sets are equal exactly if their lists are.
-use Rattle.std.specs.Prelude.{◌≡◌, ℕ, Bool, true, false, cond, not, List, [], ◌∷◌, filter, ◌==◌, nat_lt}
+use Rattle.std.specs.Prelude.{ℕ, Bool, true, false, cond, not, List, [], ◌∷◌, filter, ◌==◌, nat_lt}
 use Rattle.std.specs.List.{AllByRecursion as All}
 use Rattle.zorder.specs.Halves.{Rising}
 use Rattle.kinds.specs.Kind.{Kind, On, code_of}

@@ -1,5 +1,5 @@
 -- A part of a draft's tree as it stands on a card.
-use Rattle.std.specs.Prelude.{ℕ, ◌^◌, ◌<◌, List, map, length}
+use Rattle.std.specs.Prelude.{◌^◌, ◌<◌, List, map, length}
 use Rattle.std.specs.List.{AllByRecursion as All}
 use Rattle.kinds.specs.Kind.{Kind}
 use Rattle.page.specs.Form.{View, data_view, directory_view}

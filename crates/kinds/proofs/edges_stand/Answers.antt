@@ -1,8 +1,8 @@
-use Rattle.std.proofs.Common.{◌≡◌, ℕ, ℤ, pos, negsuc, ◌≤ℤ◌, ◌<ℤ◌, refl, arith, lit<, lit≤}
+use Rattle.std.proofs.Common.{◌≡◌, ℕ, ℤ, negsuc, refl, arith, lit<, lit≤}
 use Rattle.std.proofs.lemmas.Int.{ints}
 use Rattle.zorder.specs.Code.{woven}
 use Rattle.needle.specs.Shogs.{OnShogs, Splits}
-use Rattle.kinds.specs.Edges.{Edges, SplitsInto}
+use Rattle.kinds.specs.Edges.{SplitsInto}
 use Rattle.kinds.proofs.edges_stand.Goals as goal
 
 only_one : (shog whole : ℤ) (half : ℕ) → Splits shog whole half → (w : ℤ) (h : ℕ) → Splits shog w h → (w ≡ whole) × (h ≡ half)

@@ -1,12 +1,11 @@
-use Rattle.std.proofs.Common.{◌≡◌, ◌+◌, ◌≤◌, List, ◌++◌, length, drop, Ok, Err, sym, refl, ap, ◌∙◌, subst, arith, length-append}
-use Rattle.kinds.specs.Kind.{wide, entry_length}
+use Rattle.std.proofs.Common.{◌≤◌, ◌++◌, length, Ok, refl, ap, ◌∙◌, subst, arith, length-append}
 use Rattle.page.specs.declared.tree_page.Node.{Node}
 use Rattle.page.specs.Checks.{NodeRead, summary}
 use Rattle.tree.specs.Book.{outline}
 use Rattle.tree.specs.Laid.{shape}
 use Rattle.access.proofs.Nodes.{never_fault}
 use Rattle.access.proofs.Reaching.{reached_there, reached_reads, reached_on, leafed, forked, forked_deep, forked_short, forked_low, forked_high}
-use Rattle.outlines.specs.declared.record.Sort.TheVariants.{Data, Directory}
+use Rattle.outlines.specs.declared.record.Sort.TheVariants.{Directory}
 use Rattle.outlines.specs.Records.{Wrote, record_of}
 use Rattle.outlines.proofs.Parts.{outline_some, leaf_outline, fork_outline}
 use Rattle.outlines.proofs.Writes.{wrote_past, wrote_then}

@@ -1,5 +1,4 @@
-use Rattle.std.proofs.Common.{◌≡◌, suc, ◌+◌, ◌*◌, ◌<◌, length, Some, None, sym, refl, ap, ◌∙◌, subst, inl, inr, ⊎_elim, zero-mul, arith}
-use Rattle.kinds.specs.Kind.{entry_length}
+use Rattle.std.proofs.Common.{◌≡◌, suc, ◌+◌, ◌*◌, ◌<◌, length, Some, sym, refl, ap, ◌∙◌, subst, inl, inr, ⊎_elim, zero-mul, arith}
 use Rattle.page.specs.declared.head_page.Head.{Head}
 use Rattle.page.specs.Checks.{HeadRead, root_summary, summary}
 use Rattle.tree.specs.Book.{outline}

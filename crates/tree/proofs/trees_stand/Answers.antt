@@ -1,4 +1,4 @@
-use Rattle.tree.proofs.Laws.{one_tree_law, points_law, page_law, count_law, depth_law, set_law, way_law, short_way_law, one_set_law, whole_card_law}
+use Rattle.tree.proofs.Laws.{one_tree_law, points_law, page_law, count_law, depth_law, set_law}
 use Rattle.tree.proofs.trees_stand.Goals as goal
 
 pub returns : goal.returns

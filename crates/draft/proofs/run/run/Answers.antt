@@ -1,4 +1,4 @@
-use Rattle.std.proofs.Common.{◌≡◌, [], length, vec_items, subst, arith}
+use Rattle.std.proofs.Common.{[], length, vec_items, subst, arith}
 use Rattle.tree.specs.Lawful.{begun_card}
 use Rattle.draft.specs.Runs.{Runs}
 use Rattle.draft.proofs.run.run.Goals as goal

@@ -1,7 +1,7 @@
-use Rattle.std.proofs.Common.{◌≡◌, map, sym, ap, ◌∙◌, subst}
+use Rattle.std.proofs.Common.{◌≡◌, map, sym, subst}
 use lib.Bits.{bit_xor}
 use lib.Count.{count_leading_zeros}
-use Rattle.zorder.specs.Sharing.{Shares, Common}
+use Rattle.zorder.specs.Sharing.{Common}
 use Rattle.kinds.specs.Kind.{wide, code_of}
 use Rattle.kinds.proofs.Telling.{code_of_lt, corner_depth}
 use Rattle.kinds.proofs.points.depth.Goals as goal

@@ -1,4 +1,4 @@
-use Rattle.std.proofs.Common.{◌≡◌, Some, None, sym, refl, ap, ◌∙◌, subst, inl, inr, arith}
+use Rattle.std.proofs.Common.{Some, sym, refl, ap, ◌∙◌, subst, inl, inr, arith}
 use Rattle.page.specs.declared.head_page.Head.{Head}
 use Rattle.page.specs.Checks.{HeadRead, root_summary, summary}
 use Rattle.tree.specs.Book.{ask_off}

@@ -1,5 +1,5 @@
-use Rattle.std.proofs.Common.{◌≡◌, sym, refl, ◌∙◌, inl, inr, arith}
-use Rattle.kinds.specs.Kind.{wide, code_of}
+use Rattle.std.proofs.Common.{sym, refl, ◌∙◌, inl, inr, arith}
+use Rattle.kinds.specs.Kind.{wide}
 use Rattle.kinds.proofs.Telling.{code_of_lt}
 use Rattle.zorder.proofs.Shared.{agree_zeros, zeros_agree}
 use Rattle.tree.proofs.Halves.{not_one}

@@ -1,4 +1,4 @@
-use Rattle.std.proofs.Common.{◌≡◌, length, Some, None, sym, refl, ap, ◌∙◌, subst, arith}
+use Rattle.std.proofs.Common.{◌≡◌, length, Some, sym, refl, ap, ◌∙◌, arith}
 use Rattle.page.specs.declared.head_page.Head.{Head}
 use Rattle.page.specs.Checks.{HeadRead, root_summary, summary}
 use Rattle.access.proofs.Heads.{never_headless, head_is, no_root, rooted}

@@ -1,4 +1,4 @@
-use Rattle.std.proofs.Common.{◌≡◌, ◌+◌, [], ◌∷◌, ◌++◌, length, sym, ap, ◌∙◌, subst, arith, length-append}
+use Rattle.std.proofs.Common.{◌+◌, [], ◌∷◌, ◌++◌, subst, arith, length-append}
 use Rattle.kinds.specs.Bytes.{bytes}
 use Rattle.kinds.specs.Kind.{bytes_of}
 use Rattle.outlines.specs.Records.{Wrote, sort_number}

@@ -1,5 +1,4 @@
 use Rattle.std.proofs.Common.{List}
-use Rattle.kinds.specs.Kind.{On}
 use Rattle.page.specs.Form.{Point, data_view}
 use Rattle.page.specs.Fields.{Reads}
 use Rattle.page.proofs.Scans.{Scan}

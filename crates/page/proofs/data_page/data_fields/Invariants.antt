@@ -1,4 +1,4 @@
-use Rattle.std.proofs.Common.{◌≡◌, ℕ, ◌*◌, List, length, take, drop}
+use Rattle.std.proofs.Common.{◌≡◌, ◌*◌, List, length, take, drop}
 use Rattle.std.specs.List.{flat_map, AllByRecursion as All}
 use Rattle.zorder.specs.Code.{OnAxes}
 use Rattle.kinds.specs.Bytes.{form, size}

@@ -1,4 +1,4 @@
-use Rattle.std.proofs.Common.{ℕ, ◌<◌, List, take}
+use Rattle.std.proofs.Common.{◌<◌, List, take}
 use Rattle.std.specs.List.{AllByRecursion as All}
 use Rattle.zorder.specs.Code.{code}
 use Rattle.page.specs.Form.{Point, data_view}

@@ -1,4 +1,4 @@
-use Rattle.std.proofs.Common.{◌≡◌, ℕ, ◌*◌, List, [], ◌∷◌, map, length, take}
+use Rattle.std.proofs.Common.{◌≡◌, ◌*◌, ◌∷◌, length, take}
 use Rattle.std.specs.List.{flat_map}
 use Rattle.kinds.specs.Kind.{bytes_of, size_of}
 use Rattle.page.specs.Form.{padded}

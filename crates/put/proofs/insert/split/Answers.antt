@@ -2,7 +2,7 @@ use Rattle.std.proofs.Common.{◌≡◌, ℕ, ◌≤◌, List, map, length, set,
 use Rattle.zorder.specs.Halves.{half}
 use Rattle.kinds.specs.Kind.{code_of, wide}
 use Rattle.page.specs.Form.{Summary, data_view, directory_view, encode}
-use Rattle.tree.specs.Lawful.{Card, entry}
+use Rattle.tree.specs.Lawful.{Card}
 use Rattle.hand.specs.Hands.{listed}
 use Rattle.put.proofs.Splits.{halves_of, depth_of, entry_of, low_corner_on, high_corner_on}
 use Rattle.put.proofs.insert.split.Goals as goal

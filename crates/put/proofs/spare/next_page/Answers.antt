@@ -1,7 +1,6 @@
 use Rattle.std.proofs.Common.{ℕ, sym, refl, subst}
 use Rattle.page.specs.Form.{free_view}
 use Rattle.page.specs.Fields.{Reads}
-use Rattle.tree.specs.Lawful.{page}
 use Rattle.tree.proofs.Standings.{shown_there}
 use Rattle.put.proofs.Chains.{never_strange}
 use Rattle.put.proofs.spare.next_page.Goals as goal

@@ -1,4 +1,4 @@
-use Rattle.std.proofs.Common.{◌≡◌, ◌+◌, ◌≤◌, List, [], ◌++◌, map, length, take, sym, refl, ap, ◌∙◌, subst, arith, take_all}
+use Rattle.std.proofs.Common.{◌≡◌, ◌≤◌, List, [], ◌++◌, map, length, take, sym, refl, ap, ◌∙◌, subst, arith, take_all}
 use Rattle.page.specs.Form.{Point, data_view}
 use Rattle.page.specs.Fields.{Reads}
 use Rattle.page.proofs.Writing.{length_coords}

@@ -1,4 +1,4 @@
-use Rattle.std.proofs.Common.{◌≡◌, ◌^◌, ◌<◌, List, [], ◌∷◌, ◌++◌, length, MatchBool, sym, refl, ap, ◌∙◌, subst, append-nil, MatchResult}
+use Rattle.std.proofs.Common.{◌^◌, ◌<◌, ◌++◌, length, MatchBool, sym, refl, ap, ◌∙◌, subst, append-nil, MatchResult}
 use Rattle.page.specs.Checks.{summary}
 use Rattle.scan.proofs.Windows.{missed_by, covered_by}
 use Rattle.scan.proofs.walk.passed.Goals as goal

@@ -1,4 +1,4 @@
-use Rattle.std.proofs.Common.{◌≡◌, suc, List, [], length, Some, None, sym, refl, ap, ◌∙◌, subst, arith}
+use Rattle.std.proofs.Common.{◌≡◌, suc, [], length, Some, sym, refl, ap, ◌∙◌, subst, arith}
 use Rattle.page.specs.declared.head_page.Head.{Head}
 use Rattle.page.specs.Checks.{HeadRead, root_summary, summary}
 use Rattle.tree.specs.Book.{windowed}

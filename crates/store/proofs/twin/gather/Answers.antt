@@ -1,4 +1,4 @@
-use Rattle.std.proofs.Common.{arith, rules}
+use Rattle.std.proofs.Common.{arith}
 use Rattle.store.proofs.Twins.{woven}
 use Rattle.store.proofs.twin.gather.Goals as goal
 

@@ -11,7 +11,7 @@ use Rattle.tree.specs.Lawful.{Card, page}
 use Rattle.access.specs.Reached.{chosen}
 use Rattle.access.proofs.Reaching.{reached_count}
 use Rattle.take.specs.declared.taken.Taken.TheVariants.{Gone, Left}
-use Rattle.take.specs.Shrinking.{freed, Shrunk, TakeEnd, Shrinking, AnyEnd}
+use Rattle.take.specs.Shrinking.{Shrunk, TakeEnd, Shrinking, AnyEnd}
 use Rattle.take.proofs.Downs.{below_there, below_read, below_deep, below_absent, data_case, fork_case}
 use Rattle.take.proofs.Ups.{other_entry, down_own, live_own, up_gone, up_less}
 use Rattle.take.proofs.below.+take_below.Goals as goal

@@ -5,7 +5,6 @@ use Rattle.page.specs.Fields.{Reads}
 use Rattle.page.specs.Checks.{IsData}
 use Rattle.hand.specs.Hands.{listed}
 use Rattle.hand.proofs.Reading.{never_refused, more_read, read_count, all_read, same_points, sane_points}
-use Rattle.hand.proofs.points.Hand.of_page.Given as given
 use Rattle.hand.proofs.points.Hand.of_page.Goals as goal
 
 -- a data page is read

@@ -1,4 +1,4 @@
-use Rattle.std.proofs.Common.{◌≡◌, ◌+◌, ◌*◌, ◌/◌, ◌<◌, ◌≤◌, ◌++◌, length, take, drop, vec_items, vec_len, sym, refl, ap, ◌∙◌, arith, rules}
+use Rattle.std.proofs.Common.{◌+◌, ◌*◌, ◌/◌, ◌<◌, ◌≤◌, ◌++◌, length, take, drop, vec_items, vec_len, sym, refl, ap, ◌∙◌, arith, rules}
 use Rattle.store.specs.Rows.{row_pages, left_over}
 use Rattle.store.proofs.Rows.{length_rows, rewritten, row_set, row_rest}
 use Rattle.store.proofs.row.RowStorePageStore.write.Goals as goal

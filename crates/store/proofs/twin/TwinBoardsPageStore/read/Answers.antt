@@ -1,4 +1,4 @@
-use Rattle.std.proofs.Common.{◌≡◌, ◌+◌, ◌-◌, ◌*◌, ◌/◌, ◌<◌, min, length, vec_items, refl, ◌∙◌, arith, rules}
+use Rattle.std.proofs.Common.{◌/◌, ◌<◌, min, length, vec_items, refl, ◌∙◌, arith, rules}
 use Rattle.store.proofs.Twins.{length_twins, twin_read}
 use Rattle.store.proofs.twin.TwinBoardsPageStore.read.Goals as goal
 

@@ -1,4 +1,4 @@
-use Rattle.std.proofs.Common.{◌≡◌, ◌+◌, ◌-◌, ◌*◌, ◌/◌, ◌<◌, ◌≤◌, min, length, vec_items, vec_len, sym, refl, ◌∙◌, arith, rules}
+use Rattle.std.proofs.Common.{◌≡◌, ◌+◌, ◌-◌, ◌*◌, ◌/◌, ◌<◌, ◌≤◌, min, length, vec_items, vec_len, sym, refl, arith, rules}
 use Rattle.store.specs.Twins.{twin_pages}
 use Rattle.store.proofs.Rows.{rewritten}
 use Rattle.store.proofs.Twins.{length_twins, twin_written, twin_rest_kept}
