@@ -1,6 +1,6 @@
 -- From the page that was read to the tree, and down to the half of the next bit.
 use Rattle.std.proofs.Common.{◌≡◌, ℕ, suc, ◌+◌, ◌<◌, ◌≤◌, true, false, ◌⊎◌, List, length, sym, refl, ap, ◌∙◌, subst, inl, inr, arith}
-use Rattle.std.specs.List.{AllByRecursion as All}
+use Rattle.std.specs.List.{AllByRecursion}
 use Rattle.std.proofs.ByRecursion.{All-weaker}
 use Rattle.zorder.specs.Code.{code, first}
 use Rattle.zorder.specs.Halves.{half}
@@ -109,11 +109,11 @@ module _ {P : Type 0} (k : Kind P) (s : Sound k) (card : Card) where
         subst (λ a. agrees (code_of k) (wide k) n a p ≡ false) (sym (reached_points ps e above (directory_at q n l h) w))
         (agrees_none (code_of k) (wide k) n d.front ps p (some_points k s card ps (directory_at q n l h) w.stands) d.share (λ same. ne (low_front ∙ sym same)))
 
-    half_next : (c : ℕ) → (u : ℕ) × All (λ x. first (wide k) (n + 1) (code_of k x) ≡ u) (half (code_of k) (wide k) n c ps)
+    half_next : (c : ℕ) → (u : ℕ) × AllByRecursion (λ x. first (wide k) (n + 1) (code_of k x) ≡ u) (half (code_of k) (wide k) n c ps)
     half_next c =
         let r = half_shares (code_of k) (wide k) n c ps reached_parted in
         let m : suc n ≡ n + 1 = omega arith in
-        (r.0, subst (λ i. All (λ x. first (wide k) i (code_of k x) ≡ r.0) (half (code_of k) (wide k) n c ps)) m r.1)
+        (r.0, subst (λ i. AllByRecursion (λ x. first (wide k) i (code_of k x) ≡ r.0) (half (code_of k) (wide k) n c ps)) m r.1)
 
     -- ---- the half of a bit is reached
     pub down : (b : ℕ) → (b ≡ 0) ⊎ (b ≡ 1) → Reached k card (half (code_of k) (wide k) n b ps) (chosen b (entry k l) (entry k h)) (n + 1) (chosen b l h)

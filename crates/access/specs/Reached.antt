@@ -1,6 +1,6 @@
 -- A part of the tree of a set, as a call comes to it on the way of a point.
 use Rattle.std.specs.Prelude.{◌≡◌, ℕ, cond, List, ◌==◌}
-use Rattle.std.specs.List.{AllByRecursion as All}
+use Rattle.std.specs.List.{AllByRecursion}
 use Rattle.zorder.specs.Code.{first}
 use Rattle.kinds.specs.Kind.{Kind, wide, code_of}
 use Rattle.page.specs.Form.{Summary}
@@ -18,4 +18,4 @@ module _ {P : Type 0} (k : Kind P) where
     pub stands : Standing k card ps t
     pub at : e ≡ entry k t
     pub front : ℕ
-    pub share : All (λ q. first (wide k) above (code_of k q) ≡ front) ps
+    pub share : AllByRecursion (λ q. first (wide k) above (code_of k q) ≡ front) ps

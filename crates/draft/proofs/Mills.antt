@@ -1,6 +1,6 @@
 -- What a mill asks of a run, proved.
 use Rattle.std.proofs.Common.{◌≡◌, ℕ, suc, Bool, true, false, List, [], ◌∷◌, Ok, Err, filter, sym, refl, ap, ◌∙◌, subst, ⊎_elim, arith}
-use Rattle.std.specs.List.{ContainsAt as Has, AllByRecursion as All}
+use Rattle.std.specs.List.{ContainsAt as Has, AllByRecursion}
 use Rattle.std.proofs.ByRecursion.{All-weaker, all-has}
 use Rattle.std.proofs.lemmas.Bool.{cond-true, cond_both}
 use Rattle.zorder.specs.Sharing.{Inside}
@@ -24,7 +24,7 @@ has_later : {X : Type 0} (x y : X) (xs : List X) → Has xs x → Has (y ∷ xs)
 has_later x y xs h = (suc h.0, (let a = h.1 in omega arith), λ d. h.2 d)
 
 -- what passes the test is kept
-kept_has : {X : Type 0} (test : X → Bool) (xs : List X) → All (λ x. test x ≡ true → Has (filter test xs) x) xs
+kept_has : {X : Type 0} (test : X → Bool) (xs : List X) → AllByRecursion (λ x. test x ≡ true → Has (filter test xs) x) xs
 kept_has test [] = tt
 kept_has test (y ∷ ys) = (
   (λ e. subst (λ zs. Has zs y) (sym (cond-true _ _ _ e)) (0, omega arith, λ d. refl)),

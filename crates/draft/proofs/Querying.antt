@@ -1,6 +1,6 @@
 -- Queries answered over the live points.
 use Rattle.std.proofs.Common.{◌≡◌, ℕ, suc, ◌≤◌, Bool, true, false, List, [], ◌∷◌, length, ℤ, Ok, Err, Result, sym, refl, ap, ◌∙◌, subst, ⊎_elim, arith}
-use Rattle.std.specs.List.{ContainsAt as Has, AllByRecursion as All}
+use Rattle.std.specs.List.{ContainsAt as Has, AllByRecursion}
 use Rattle.std.proofs.ByRecursion.{All-weaker, all-has}
 use Rattle.std.proofs.lemmas.Bool.{cases_Bool, cond-true, cond-false}
 use Rattle.refusal.specs.declared.Refusal.{Refusal}
@@ -22,7 +22,7 @@ module _ {P : Type 0} (k : Kind P) where
     whole : Whole k w
     whole = record { low_on = o.low_on; high_on = o.high_on; uncrossed = u }
 
-    pub selected_is : (set xs : List P) → All (On k) set → Selected k query set xs → xs ≡ windowed k w.low w.high set
+    pub selected_is : (set xs : List P) → AllByRecursion (On k) set → Selected k query set xs → xs ≡ windowed k w.low w.high set
     selected_is _ _ on no_points = refl
     selected_is _ _ on (one_more {p} {set} {xs} s r) =
         ap (λ ys. p ∷ ys) (selected_is set xs on.1 r) ∙ sym (cond-true _ _ _ (inside_test k w whole p (o.inside p on.0 s)))
@@ -61,7 +61,7 @@ module _ {P : Type 0} (k : Kind P) where
     none_selected _ _ (one_more {p = q} {set = set} {xs = xs} s r) n = absurd (n (0, omega arith, λ d. sound.one_point q p (exact_same (k.coords p) (k.coords q) s)))
     none_selected _ _ (one_not {p = q} {set = set} {xs = xs} m r) n = none_selected set xs r (λ h. n (suc h.0, (let a = h.1 in omega arith), λ d. h.2 d))
 
-    some_selected : (set xs : List P) → Selected k (exact (k.coords p)) set xs → All (λ q. q ≡ p → 1 ≤ length xs) set
+    some_selected : (set xs : List P) → Selected k (exact (k.coords p)) set xs → AllByRecursion (λ q. q ≡ p → 1 ≤ length xs) set
     some_selected _ _ no_points = tt
     some_selected _ _ (one_more {p = q} {set = set} {xs = xs} s r) = ((λ e. omega arith), All-weaker _ _ (λ x f e. omega arith) set (some_selected set xs r))
     some_selected _ _ (one_not {p = q} {set = set} {xs = xs} m r) = ((λ e. absurd (m (subst (λ x. Selects (exact (k.coords p)) (k.coords x)) (sym e) (same_exact (k.coords p))))), some_selected set xs r)

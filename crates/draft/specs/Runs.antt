@@ -1,6 +1,6 @@
 -- One call on a card, and whole runs of calls, beside the plain book.
 use Rattle.std.specs.Prelude.{◌≡◌, ℕ, ◌<◌, ◌≤◌, Bool, ◌⊎◌, List, [], ◌∷◌, ◌++◌, length, Ok, Err, vec_items, Option, Result, Vec, ◌≢◌}
-use Rattle.std.specs.List.{ContainsAt as Has, AllByRecursion as All}
+use Rattle.std.specs.List.{ContainsAt as Has, AllByRecursion}
 use Rattle.std.specs.declared.alloc.Global.{Global}
 use Rattle.refusal.specs.declared.Refusal.{Refusal}
 use Rattle.refusal.specs.Numbers.{number, numbered}
@@ -114,10 +114,10 @@ Halted total room calls (Refused why) = (calls ≤ room) × (number why ≡ 1) �
 module _ (P : Type 0) where
   -- no call takes the point; no call puts it
   abbrev pub NeverTaken : P → List (Call P) → Type 0
-  NeverTaken p cs = All (λ c. c ≢ call.Take p) cs
+  NeverTaken p cs = AllByRecursion (λ c. c ≢ call.Take p) cs
 
   abbrev pub NeverPut : P → List (Call P) → Type 0
-  NeverPut p cs = All (λ c. c ≢ call.Put p) cs
+  NeverPut p cs = AllByRecursion (λ c. c ≢ call.Put p) cs
 
   -- A point that was put and is not taken afterwards is in the book at the end, and is listed in every window that holds it.
   abbrev pub KeptLaw : Type 0

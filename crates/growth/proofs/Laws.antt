@@ -1,6 +1,6 @@
 -- The laws of growing and shrinking trees, proved.
 use Rattle.std.proofs.Common.{ℕ, ◌+◌, ◌≤◌, List, [], ◌∷◌, ◌++◌, length, Some, None, Option, refl, ap, ◌∙◌, inl, inr, arith}
-use Rattle.std.specs.List.{ContainsAt as Has, AllByRecursion as All}
+use Rattle.std.specs.List.{ContainsAt as Has, AllByRecursion}
 use Rattle.std.proofs.ByRecursion.{All-weaker, all_has_itself}
 use Rattle.zorder.proofs.Corners.{code_lt}
 use Rattle.kinds.specs.Kind.{Kind, wide, code_of}
@@ -19,14 +19,14 @@ use Rattle.growth.proofs.Puts.{grows_some, grows_halved, grows_new, grows_times,
 use Rattle.growth.proofs.Takes.{shrinks_some, shrinks_halved, shrinks_times, shrinks_freed, shrinks_parts, Freed, Left}
 
 -- each number of a list stands in it
-pub all_there : (xs : List ℕ) → All (λ q. 1 ≤ times q xs) xs
+pub all_there : (xs : List ℕ) → AllByRecursion (λ q. 1 ≤ times q xs) xs
 all_there [] = tt
 all_there (x ∷ xs) = (let e = one_same x x refl in omega arith, All-weaker _ _ (λ q h. omega arith) xs (all_there xs))
 
-pub there_left : (xs ys : List ℕ) → All (λ q. 1 ≤ times q (xs ++ ys)) xs
+pub there_left : (xs ys : List ℕ) → AllByRecursion (λ q. 1 ≤ times q (xs ++ ys)) xs
 there_left xs ys = All-weaker _ _ (λ q h. let a = times_append q xs ys in omega arith) xs (all_there xs)
 
-pub there_right : (xs ys : List ℕ) → All (λ q. 1 ≤ times q (xs ++ ys)) ys
+pub there_right : (xs ys : List ℕ) → AllByRecursion (λ q. 1 ≤ times q (xs ++ ys)) ys
 there_right xs ys = All-weaker _ _ (λ q h. let a = times_append q xs ys in omega arith) ys (all_there ys)
 
 pub put_law : (P : Type 0) → PutLaw P

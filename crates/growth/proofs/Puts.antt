@@ -1,6 +1,6 @@
 -- A put keeps the halving rule.
 use Rattle.std.proofs.Common.{◌≡◌, ℕ, zero, suc, ◌+◌, ◌%◌, ◌^◌, ◌<◌, ◌≤◌, true, false, ◌⊎◌, List, [], ◌∷◌, length, sym, refl, ap, ◌∙◌, subst, inl, inr, ⊎_elim, arith, length-append}
-use Rattle.std.specs.List.{AllByRecursion as All}
+use Rattle.std.specs.List.{AllByRecursion}
 use Rattle.std.proofs.lemmas.Bool.{cases_lt, cases_eq, cases_Bool, both_ways, and_parts, eqb-true, eq-eqb, ne_eqb, cond-true, cond-false}
 use Rattle.std.proofs.ByRecursion.{All-weaker, All-append}
 use Rattle.zorder.specs.Code.{first, bit_at}
@@ -20,7 +20,7 @@ use Rattle.tree.proofs.Standings.{all_front, all_back}
 use Rattle.tree.proofs.Laws.{agrees_all}
 
 module _ {P : Type 0} (code : P → ℕ) (w : ℕ) where
-  pub agrees_each : (n : ℕ) (p : P) (ps : List P) → agrees code w n ps p ≡ true → All (λ q. first w n (code q) ≡ first w n (code p)) ps
+  pub agrees_each : (n : ℕ) (p : P) (ps : List P) → agrees code w n ps p ≡ true → AllByRecursion (λ q. first w n (code q) ≡ first w n (code p)) ps
   agrees_each n p [] e = tt
   agrees_each n p (q ∷ qs) e = let h = and_parts _ _ e in (eqb-true _ _ h.0, agrees_each n p qs h.1)
 
@@ -61,12 +61,12 @@ module _ {P : Type 0} (code : P → ℕ) (w : ℕ) where
       absurd (both_ways (agrees code w n ps p) off (agrees_all code w n (first w n (code p)) ps p (All-weaker _ _ fewer ps sh.1) refl)))
       (cases_lt m n) in
       -- so the points of the set have the same bit m
-      let same : All (λ x. bit_at w m (code x) ≡ bit_at w m (code q)) ps =
+      let same : AllByRecursion (λ x. bit_at w m (code x) ≡ bit_at w m (code q)) ps =
       All-weaker _ _ (λ x s. ap (λ y. y % 2) (first_fewer w n (suc m) (code x) (code q) lt (omega arith) (s ∙ sym d.share.0))) ps d.share in
       let bq = bit_at w m (code q) in
       -- and p has the other one
       let ne : bit_at w m (code p) ≡ bq → ⊥ = λ s.
-      let all : All (λ x. bit_at w m (code x) ≡ bq) (with_point code p ps) = all_with code _ p ps s same in
+      let all : AllByRecursion (λ x. bit_at w m (code x) ≡ bq) (with_point code p ps) = all_with code _ p ps s same in
       let none : (c : ℕ) → (bq ≡ c → ⊥) → length (half code w m c (with_point code p ps)) ≡ 0 = λ c nc. ap length (half_none code w m c (with_point code p ps) (All-weaker _ _ (λ x t z. nc (sym t ∙ z)) (with_point code p ps) all)) in
       elim (bit_cases w m (code q)) [
         | inl z ↦ let k = none 1 (λ t. omega (arith, z, t)) in let h = e.high in omega arith
@@ -135,7 +135,7 @@ module _ {P : Type 0} (code : P → ℕ) (w b : ℕ) (room : 1 ≤ b) (p : P) (f
       halved_points code w b room (with_point code p ps) (shape u) (grows_halved ps gr whole up out) (rising_with code p ps up out) ∙ ap (with_point code p) (sym (halved_points code w b room ps (shape t) whole up))
 
   -- a put can always be made
-  pub grows_some : (ps : List P) (t : Laid P) → Halved code w b ps (shape t) → Rising code ps → All (λ q. code q < 2 ^ w) ps → Absent code p ps → code p < 2 ^ w → (u : Laid P) × (new : List ℕ) × Grows code w b p f g t u new
+  pub grows_some : (ps : List P) (t : Laid P) → Halved code w b ps (shape t) → Rising code ps → AllByRecursion (λ q. code q < 2 ^ w) ps → Absent code p ps → code p < 2 ^ w → (u : Laid P) × (new : List ℕ) × Grows code w b p f g t u new
   grows_some ps (data_at q _) (one_page a c) up fits out fit =
       ⊎_elim
       (λ lt. (_, _, fits_in lt))
@@ -208,14 +208,14 @@ module _ {P : Type 0} (code : P → ℕ) (w : ℕ) (p : P) where
 module _ {P : Type 0} (k : Kind P) (p : P) (f g : ℕ) (A : ℕ → Type 0) (B : Part → Type 0) where
   -- a page of the new tree is new, on the way, or a page of the old tree with the same bytes:
   -- so where A holds of the new pages and the way, and B of the parts of the old tree, one of them holds of each part of the new one
-  pub grows_parts : {t u : Laid P} {new : List ℕ} → Grows (code_of k) (wide k) k.capacity p f g t u new → All A new → All A (way (code_of k) (wide k) t p) → All B (parts k t) → All (λ x. A x.at ⊎ B x) (parts k u)
+  pub grows_parts : {t u : Laid P} {new : List ℕ} → Grows (code_of k) (wide k) k.capacity p f g t u new → AllByRecursion A new → AllByRecursion A (way (code_of k) (wide k) t p) → AllByRecursion B (parts k t) → AllByRecursion (λ x. A x.at ⊎ B x) (parts k u)
   grows_parts (fits_in lt) a v o = (inl v.0, tt)
   grows_parts (splits full d) a v o = (inl a.0, (inl v.0, (inl a.1.0, tt)))
   grows_parts (above_low {q} {n} {m} {l} {h} off d bit) a v o = (inl a.0, All-append _ (parts k (directory_at q n l h)) _ (All-weaker B (λ x. A x.at ⊎ B x) (λ x y. inr y) (parts k (directory_at q n l h)) o) (inl a.1.0, tt))
   grows_parts (above_high {q} {n} {m} {l} {h} off d bit) a v o = (inl a.0, (inl a.1.0, All-weaker B (λ x. A x.at ⊎ B x) (λ x y. inr y) (parts k (directory_at q n l h)) o))
   grows_parts (into_low {q} {n} {l} {h} {m} ok bit gr) a v o =
-      let v' : All A (q ∷ way (code_of k) (wide k) l p) = subst (All A) (way_low (code_of k) (wide k) p q n l h ok bit) v in
+      let v' : AllByRecursion A (q ∷ way (code_of k) (wide k) l p) = subst (AllByRecursion A) (way_low (code_of k) (wide k) p q n l h ok bit) v in
       (inl v'.0, All-append _ (parts k m) (parts k h) (grows_parts gr a v'.1 (all_front B (parts k l) (parts k h) o.1)) (All-weaker B (λ x. A x.at ⊎ B x) (λ x y. inr y) (parts k h) (all_back B (parts k l) (parts k h) o.1)))
   grows_parts (into_high {q} {n} {l} {h} {m} ok bit gr) a v o =
-      let v' : All A (q ∷ way (code_of k) (wide k) h p) = subst (All A) (way_high (code_of k) (wide k) p q n l h ok bit) v in
+      let v' : AllByRecursion A (q ∷ way (code_of k) (wide k) h p) = subst (AllByRecursion A) (way_high (code_of k) (wide k) p q n l h ok bit) v in
       (inl v'.0, All-append _ (parts k l) (parts k m) (All-weaker B (λ x. A x.at ⊎ B x) (λ x y. inr y) (parts k l) (all_front B (parts k l) (parts k h) o.1)) (grows_parts gr a v'.1 (all_back B (parts k l) (parts k h) o.1)))

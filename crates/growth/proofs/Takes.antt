@@ -1,6 +1,6 @@
 -- A take keeps the halving rule.
 use Rattle.std.proofs.Common.{◌≡◌, ℕ, suc, ◌+◌, ◌≤◌, true, ◌⊎◌, List, [], ◌∷◌, ◌++◌, length, Some, None, Option, sym, refl, ap, ◌∙◌, subst, ap₂, inl, inr, ⊎_elim, arith, length-append}
-use Rattle.std.specs.List.{AllByRecursion as All}
+use Rattle.std.specs.List.{AllByRecursion}
 use Rattle.std.proofs.lemmas.Bool.{cases_lt, eq-eqb, ne_eqb, cond-true, cond-false}
 use Rattle.std.proofs.ByRecursion.{All-weaker, All-append, all_kept_by}
 use Rattle.std.proofs.lemmas.List.{nil_from_length, append-nil}
@@ -196,7 +196,7 @@ module _ {P : Type 0} (k : Kind P) (room : 1 ≤ k.capacity) (p : P) (A : ℕ �
   abbrev Either : Part → Type 0
   Either x = A x.at ⊎ B x
 
-  olds : (xs : List Part) → All B xs → All Either xs
+  olds : (xs : List Part) → AllByRecursion B xs → AllByRecursion Either xs
   olds xs all = All-weaker B Either (λ x y. inr y) xs all
 
   goes : (ps : List P) (q n : ℕ) (l h : Laid P) → Halved (code_of k) (wide k) k.capacity ps (shape (directory_at q n l h)) → Rising (code_of k) ps → live (code_of k) p ps ≡ true → agrees (code_of k) (wide k) n (below_it (directory_at q n l h)) p ≡ true
@@ -206,40 +206,40 @@ module _ {P : Type 0} (k : Kind P) (room : 1 ≤ k.capacity) (p : P) (A : ℕ �
 
   -- what is left of the tree has pages of the way, and pages of the tree with the same bytes; a page that becomes free is on the way or beside its last
   pub shrinks_parts : (ps : List P) {t : Laid P} {u : Option (Laid P)} {freed : List ℕ} (last : List ℕ) → Shrinks (code_of k) (wide k) k.capacity p t u freed → Halved (code_of k) (wide k) k.capacity ps (shape t) → Rising (code_of k) ps → live (code_of k) p ps ≡ true
-      → All A (way (code_of k) (wide k) t p) → All A (beside_in (code_of k) (wide k) last t p) → All B (parts k t) → All Either (root_parts k u) × All A freed
+      → AllByRecursion A (way (code_of k) (wide k) t p) → AllByRecursion A (beside_in (code_of k) (wide k) last t p) → AllByRecursion B (parts k t) → AllByRecursion Either (root_parts k u) × AllByRecursion A freed
   shrinks_parts ps last (emptied e) (one_page a c) up on v s o = (tt, v)
   shrinks_parts ps last (fewer some) (one_page a c) up on v s o = ((inl v.0, tt), tt)
   shrinks_parts ps last (low_gone {q} {n} {l} {h} z sh) (halves c d x y) up on v s o =
       let ok = goes ps q n l h (halves c d x y) up on in
-      let v' = subst (All A) (way_low (code_of k) (wide k) p q n l h ok z) v in
-      let s' = subst (All A) (beside_low (code_of k) (wide k) p last q n l h ok z) s in
+      let v' = subst (AllByRecursion A) (way_low (code_of k) (wide k) p q n l h ok z) v in
+      let s' = subst (AllByRecursion A) (beside_low (code_of k) (wide k) p last q n l h ok z) s in
       let r = shrinks_parts (half (code_of k) (wide k) n 0 ps) (number h ∷ []) sh x (half_rising (code_of k) (wide k) n 0 ps up) (half_live (code_of k) (wide k) n 0 p ps z ∙ on) v'.1 s' (all_front B (parts k l) (parts k h) o.1) in
       (olds (parts k h) (all_back B (parts k l) (parts k h) o.1), (v'.0, r.1))
   shrinks_parts ps last (high_gone {q} {n} {l} {h} z sh) (halves c d x y) up on v s o =
       let ok = goes ps q n l h (halves c d x y) up on in
-      let v' = subst (All A) (way_high (code_of k) (wide k) p q n l h ok z) v in
-      let s' = subst (All A) (beside_high (code_of k) (wide k) p last q n l h ok z) s in
+      let v' = subst (AllByRecursion A) (way_high (code_of k) (wide k) p q n l h ok z) v in
+      let s' = subst (AllByRecursion A) (beside_high (code_of k) (wide k) p last q n l h ok z) s in
       let r = shrinks_parts (half (code_of k) (wide k) n 1 ps) (number l ∷ []) sh y (half_rising (code_of k) (wide k) n 1 ps up) (half_live (code_of k) (wide k) n 1 p ps z ∙ on) v'.1 s' (all_back B (parts k l) (parts k h) o.1) in
       (olds (parts k l) (all_front B (parts k l) (parts k h) o.1), (v'.0, r.1))
   shrinks_parts ps last (merged_low {q = q} {n = n} {r = r} {s = e} {ls = ls} {hs = hs} z some small) (halves c d x y) up on v s o =
       let ok = goes ps q n (data_at r ls) (data_at e hs) (halves c d x y) up on in
-      let v' = subst (All A) (way_low (code_of k) (wide k) p q n (data_at r ls) (data_at e hs) ok z) v in
-      let s' = subst (All A) (beside_low (code_of k) (wide k) p last q n (data_at r ls) (data_at e hs) ok z) s in
+      let v' = subst (AllByRecursion A) (way_low (code_of k) (wide k) p q n (data_at r ls) (data_at e hs) ok z) v in
+      let s' = subst (AllByRecursion A) (beside_low (code_of k) (wide k) p last q n (data_at r ls) (data_at e hs) ok z) s in
       ((inl v'.1.0, tt), (v'.0, s'))
   shrinks_parts ps last (merged_high {q = q} {n = n} {r = r} {s = e} {ls = ls} {hs = hs} z some small) (halves c d x y) up on v s o =
       let ok = goes ps q n (data_at r ls) (data_at e hs) (halves c d x y) up on in
-      let v' = subst (All A) (way_high (code_of k) (wide k) p q n (data_at r ls) (data_at e hs) ok z) v in
-      let s' = subst (All A) (beside_high (code_of k) (wide k) p last q n (data_at r ls) (data_at e hs) ok z) s in
+      let v' = subst (AllByRecursion A) (way_high (code_of k) (wide k) p q n (data_at r ls) (data_at e hs) ok z) v in
+      let s' = subst (AllByRecursion A) (beside_high (code_of k) (wide k) p last q n (data_at r ls) (data_at e hs) ok z) s in
       ((inl v'.1.0, tt), (v'.0, s'))
   shrinks_parts ps last (less_low {q} {n} {l} {h} {m} z sh big) (halves c d x y) up on v s o =
       let ok = goes ps q n l h (halves c d x y) up on in
-      let v' = subst (All A) (way_low (code_of k) (wide k) p q n l h ok z) v in
-      let s' = subst (All A) (beside_low (code_of k) (wide k) p last q n l h ok z) s in
+      let v' = subst (AllByRecursion A) (way_low (code_of k) (wide k) p q n l h ok z) v in
+      let s' = subst (AllByRecursion A) (beside_low (code_of k) (wide k) p last q n l h ok z) s in
       let r = shrinks_parts (half (code_of k) (wide k) n 0 ps) (number h ∷ []) sh x (half_rising (code_of k) (wide k) n 0 ps up) (half_live (code_of k) (wide k) n 0 p ps z ∙ on) v'.1 s' (all_front B (parts k l) (parts k h) o.1) in
       ((inl v'.0, All-append Either (parts k m) (parts k h) r.0 (olds (parts k h) (all_back B (parts k l) (parts k h) o.1))), r.1)
   shrinks_parts ps last (less_high {q} {n} {l} {h} {m} z sh big) (halves c d x y) up on v s o =
       let ok = goes ps q n l h (halves c d x y) up on in
-      let v' = subst (All A) (way_high (code_of k) (wide k) p q n l h ok z) v in
-      let s' = subst (All A) (beside_high (code_of k) (wide k) p last q n l h ok z) s in
+      let v' = subst (AllByRecursion A) (way_high (code_of k) (wide k) p q n l h ok z) v in
+      let s' = subst (AllByRecursion A) (beside_high (code_of k) (wide k) p last q n l h ok z) s in
       let r = shrinks_parts (half (code_of k) (wide k) n 1 ps) (number l ∷ []) sh y (half_rising (code_of k) (wide k) n 1 ps up) (half_live (code_of k) (wide k) n 1 p ps z ∙ on) v'.1 s' (all_back B (parts k l) (parts k h) o.1) in
       ((inl v'.0, All-append Either (parts k l) (parts k m) (olds (parts k l) (all_front B (parts k l) (parts k h) o.1)) r.0), r.1)

@@ -1,6 +1,6 @@
 -- What a put and a take make of the laid tree of a set, for every kind.
 use Rattle.std.specs.Prelude.{◌≡◌, ℕ, ◌+◌, ◌≤◌, true, false, ◌⊎◌, List, [], ◌∷◌, ◌++◌, length, Option}
-use Rattle.std.specs.List.{ContainsAt as Has, AllByRecursion as All}
+use Rattle.std.specs.List.{ContainsAt as Has, AllByRecursion}
 use Rattle.kinds.specs.Kind.{Kind, Sound, On, wide, code_of}
 use Rattle.page.specs.Form.{times}
 use Rattle.tree.specs.Sets.{IsSet, live, with_point, without_point}
@@ -24,7 +24,7 @@ pub record PutMade {P : Type 0} (k : Kind P) (ps : List P) (p : P) (f g : ℕ) (
   -- so the tree of the set with the point has so many pages, whichever way it is laid
   pub pages : (u : Tree P) → TreeOf k (with_point (code_of k) p ps) u → data_pages u + directory_pages u ≡ length (numbers t) + length new
   -- each of its pages is new, on the way of the point, or as it was
-  pub others : All (λ x. (1 ≤ times x.at (new ++ way (code_of k) (wide k) t p)) ⊎ Has (parts k t) x) (parts k made)
+  pub others : AllByRecursion (λ x. (1 ≤ times x.at (new ++ way (code_of k) (wide k) t p)) ⊎ Has (parts k t) x) (parts k made)
 
 -- A point that is not live can be put into the laid tree of a set.
 abbrev pub PutLaw : Type 0 → Type 0
@@ -41,8 +41,8 @@ pub record TakeMade {P : Type 0} (k : Kind P) (ps : List P) (p : P) (t : Laid P)
   pub few : length freed ≤ 2
   pub each : (q : ℕ) → times q (numbers t) ≡ times q (root_numbers made) + times q freed
   -- each page left is on the way of the point, beside its last page, or as it was; and each freed page is on the way or beside its last page
-  pub others : All (λ x. (1 ≤ times x.at (way (code_of k) (wide k) t p ++ beside (code_of k) (wide k) t p)) ⊎ Has (parts k t) x) (root_parts k made)
-  pub freed_there : All (λ q. 1 ≤ times q (way (code_of k) (wide k) t p ++ beside (code_of k) (wide k) t p)) freed
+  pub others : AllByRecursion (λ x. (1 ≤ times x.at (way (code_of k) (wide k) t p ++ beside (code_of k) (wide k) t p)) ⊎ Has (parts k t) x) (root_parts k made)
+  pub freed_there : AllByRecursion (λ q. 1 ≤ times q (way (code_of k) (wide k) t p ++ beside (code_of k) (wide k) t p)) freed
 
 -- A live point can be taken from the laid tree of a set.
 abbrev pub TakeLaw : Type 0 → Type 0

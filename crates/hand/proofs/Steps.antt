@@ -1,6 +1,6 @@
 -- Loops over the points in the hand, one step on and at the end.
 use Rattle.std.proofs.Common.{◌≡◌, ℕ, ◌+◌, ◌<◌, ◌≤◌, Bool, true, false, eqb, ltb, List, [], ◌∷◌, ◌++◌, length, get_or, take, drop, filter, sym, ap, ◌∙◌, subst, arith}
-use Rattle.std.specs.List.{AllByRecursion as All}
+use Rattle.std.specs.List.{AllByRecursion}
 use Rattle.std.proofs.lemmas.List.{length-take-le, drop_more, drop_all, take_more, append-nil, append_assoc, length_push}
 use Rattle.std.proofs.ByRecursion.{All-get_or}
 use Rattle.std.proofs.lemmas.Bool.{eq-eqb, ne_eqb, lt-ltb, le-ltb, cond-true, cond-false}
@@ -14,7 +14,7 @@ module _ {P : Type 0} where
   pub count_is : (h : Hand P) → length (listed h) ≡ h.count
   count_is h = let f = h.few in let n = sixteen_long h.points in length-take-le h.count (sixteen h.points) (omega arith)
 
-  pub item_has : (Q : P → Type 0) (h : Hand P) (i : ℕ) (x : P) → i < h.count → x ≡ get_or (listed h) i x → All Q (listed h) → Q x
+  pub item_has : (Q : P → Type 0) (h : Hand P) (i : ℕ) (x : P) → i < h.count → x ≡ get_or (listed h) i x → AllByRecursion Q (listed h) → Q x
   item_has Q h i x lt e all = let n = count_is h in subst Q (sym e) (All-get_or Q (listed h) i x (omega arith) all)
 
   -- what is left: the point at the place, and what comes behind it

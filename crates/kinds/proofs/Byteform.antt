@@ -1,6 +1,6 @@
 -- Byte forms: short lists by their elements, two's complement, and that bytes say one point at most.
 use Rattle.std.proofs.Common.{◌≡◌, ℕ, zero, suc, ◌+◌, ◌*◌, ◌/◌, ◌%◌, ◌^◌, ◌<◌, ◌≤◌, List, [], ◌∷◌, ◌++◌, length, get_or, drop, ℤ, pos, negsuc, ◌+ℤ◌, ◌≤ℤ◌, ◌<ℤ◌, sym, refl, ap, ◌∙◌, subst, append_assoc, arith, length-append, drop-cons, pow_mono, pow-add, w16, of_z}
-use Rattle.std.specs.List.{AllByRecursion as All}
+use Rattle.std.specs.List.{AllByRecursion}
 use Rattle.std.proofs.lemmas.List.{drop_all}
 use Rattle.std.proofs.lemmas.Int.{ints}
 use Rattle.zorder.specs.Code.{Axis, OnAxis, OnAxes}
@@ -75,7 +75,7 @@ module _ (a : Axis) (w : Wide a) where
       (λ x i. deep x (subst (OnAxis a) i g)) (λ x i. deep x (subst (OnAxis a) i h)) a.bytes refl e
 
 -- a point can be read off the front
-pub form_split : (axs : List Axis) (p q : List ℤ) (u v : List ℕ) → All Wide axs → OnAxes axs p → OnAxes axs q → form axs p ++ u ≡ form axs q ++ v → (p ≡ q) × (u ≡ v)
+pub form_split : (axs : List Axis) (p q : List ℤ) (u v : List ℕ) → AllByRecursion Wide axs → OnAxes axs p → OnAxes axs q → form axs p ++ u ≡ form axs q ++ v → (p ≡ q) × (u ≡ v)
 form_split [] [] [] u v w g h e = (refl, e)
 form_split [] [] (y ∷ q) u v w g h e = absurd h
 form_split [] (x ∷ p) q u v w g h e = absurd g

@@ -2,7 +2,7 @@
 use Rattle.std.proofs.Common.{◌≡◌, ℕ, ◌^◌, ◌<◌, Bool, true, false, List, [], ◌∷◌, map, ℤ, sym, refl, ap, subst, ap₂, arith}
 use lib.Bits.{bit_xor}
 use lib.Count.{count_leading_zeros}
-use Rattle.std.specs.List.{AllByRecursion as All}
+use Rattle.std.specs.List.{AllByRecursion}
 use Rattle.std.proofs.ByRecursion.{All-map}
 use Rattle.zorder.specs.Code.{OnAxes, code}
 use Rattle.zorder.specs.Sharing.{Under, Common}
@@ -39,7 +39,7 @@ module _ {P : Type 0} (k : Kind P) (sound : Sound k) where
   codes_of (p ∷ ps) = ap (λ cs. code_of k p ∷ cs) (codes_of ps)
 
   -- the leading zeros of the xor of the corners' codes: so many first bits do all codes share
-  pub corner_depth : (low high : List ℤ) (p : P) (ps : List P) → All (On k) (p ∷ ps) → low ≡ low_corner k (p ∷ ps) → high ≡ high_corner k (p ∷ ps)
+  pub corner_depth : (low high : List ℤ) (p : P) (ps : List P) → AllByRecursion (On k) (p ∷ ps) → low ≡ low_corner k (p ∷ ps) → high ≡ high_corner k (p ∷ ps)
       → Common (wide k) (count_leading_zeros (wide k) (bit_xor (code k.axes low) (code k.axes high))) (code_of k p) (map (code_of k) ps)
   corner_depth low high p ps on l h =
       let A = k.axes in

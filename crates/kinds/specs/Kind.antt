@@ -1,6 +1,6 @@
 -- A point kind as a value: its axes, its capacity and its page kinds. Code, byte form and corners follow from the axes.
 use Rattle.std.specs.Prelude.{◌≡◌, ℕ, ◌+◌, ◌*◌, ◌≤◌, Bool, ◌≢◌, List, [], ◌∷◌, map, length, ℤ, MatchBool}
-use Rattle.std.specs.List.{AllByRecursion as All}
+use Rattle.std.specs.List.{AllByRecursion}
 use Rattle.zorder.specs.Code.{Axis, OnAxes, code, width}
 use Rattle.zorder.specs.Sharing.{Narrow, least_corner, greatest_corner}
 use Rattle.kinds.specs.Bytes.{form, size, Wide}
@@ -78,7 +78,7 @@ pub record Sound {P : Type 0} (k : Kind P) : Type 0 where
   -- one to four axes
   pub axes_count : (1 ≤ length k.axes) × (length k.axes ≤ 4)
   -- of 1 to 32 bits each
-  pub some_bits : All (λ a. 1 ≤ a.bits) k.axes
+  pub some_bits : AllByRecursion (λ a. 1 ≤ a.bits) k.axes
   pub narrow : Narrow k.axes
   -- and at most 60 bits together
   pub few : wide k ≤ 60
@@ -89,7 +89,7 @@ pub record Sound {P : Type 0} (k : Kind P) : Type 0 where
   pub page_kinds : PageKind k.data_kind × PageKind k.directory_kind × PageKind k.head_kind
   pub different : (k.data_kind ≢ k.directory_kind) × (k.data_kind ≢ k.head_kind) × (k.directory_kind ≢ k.head_kind)
   -- the bytes of each axis tell its coordinates apart
-  pub wide_bytes : All Wide k.axes
+  pub wide_bytes : AllByRecursion Wide k.axes
   -- any coordinates on the axes make a point
   pub every_point : (zs : List ℤ) → OnAxes k.axes zs → (p : P) × (k.coords p ≡ zs)
   -- and one point only: a point is its coordinates

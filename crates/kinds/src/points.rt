@@ -1,7 +1,7 @@
 // What every point kind can do, written once.
 ghost use Rattle.std.specs.Prelude.{◌≡◌, ℕ, ◌<◌, List, ◌∷◌, map, length, bit_xor};
 ghost use Rattle.std.specs.Int.Count.{count_leading_zeros};
-ghost use Rattle.std.specs.List.{AllByRecursion as All};
+ghost use Rattle.std.specs.List.{AllByRecursion};
 ghost use Rattle.zorder.specs.Code.{bit_at};
 ghost use Rattle.zorder.specs.Sharing.{Inside, Shares, Common};
 ghost use Rattle.kinds.specs.Kind.{Whether, On, wide, code_of, size_of, bytes_of, low_corner, high_corner};
@@ -86,7 +86,7 @@ pub fn depth<K: PointKind>(low: &K, high: &K) -> u32
     requires high_on { On K.PointKind.kind high.now }
     ensures zeros { result ≡ count_leading_zeros (wide K.PointKind.kind) (bit_xor (code_of K.PointKind.kind low.now) (code_of K.PointKind.kind high.now)) }
     ensures shares { Shares (wide K.PointKind.kind) result (code_of K.PointKind.kind low.now) (code_of K.PointKind.kind high.now) }
-    ensures set { (p : K) (ps : List K) → All (On K.PointKind.kind) (p ∷ ps) → K.PointKind.kind.coords low.now ≡ low_corner K.PointKind.kind (p ∷ ps) → K.PointKind.kind.coords high.now ≡ high_corner K.PointKind.kind (p ∷ ps) → Common (wide K.PointKind.kind) result (code_of K.PointKind.kind p) (map (code_of K.PointKind.kind) ps) }
+    ensures set { (p : K) (ps : List K) → AllByRecursion (On K.PointKind.kind) (p ∷ ps) → K.PointKind.kind.coords low.now ≡ low_corner K.PointKind.kind (p ∷ ps) → K.PointKind.kind.coords high.now ≡ high_corner K.PointKind.kind (p ∷ ps) → Common (wide K.PointKind.kind) result (code_of K.PointKind.kind p) (map (code_of K.PointKind.kind) ps) }
 {
     shared_bits(bits::<K>(), low.code(), high.code())
 }

@@ -1,6 +1,6 @@
 -- The way of a point on a card that shows the tree of a set.
 use Rattle.std.proofs.Common.{◌≡◌, ℕ, suc, ◌+◌, ◌<◌, ◌≤◌, Bool, true, false, List, [], ◌∷◌, map, length, Some, None, sym, refl, ap, ◌∙◌, subst, ⊎_elim, arith}
-use Rattle.std.specs.List.{ContainsAt as Has, AllByRecursion as All}
+use Rattle.std.specs.List.{ContainsAt as Has, AllByRecursion}
 use Rattle.std.proofs.lemmas.Bool.{cases_Bool}
 use Rattle.std.proofs.ByRecursion.{All-weaker, All-map, all-has, all_has_itself}
 use Rattle.zorder.specs.Code.{code, first, bit_at}
@@ -32,7 +32,7 @@ module _ {P : Type 0} (k : Kind P) (s : Sound k) (card : Card) where
     pub same : live (code_of k) p ps ≡ live (code_of k) p qs
     pub few : turn ≤ wide k
     pub front : ℕ
-    pub share : All (λ q. first (wide k) turn (code_of k q) ≡ front) qs
+    pub share : AllByRecursion (λ q. first (wide k) turn (code_of k q) ≡ front) qs
 
   pub first_turn : (p : P) (ps : List P) (t : Laid P) (at : ℕ) → Standing k card ps t → number t ≡ at → Turn p ps at 0
   first_turn p ps t at st e = record {
@@ -135,7 +135,7 @@ module _ {P : Type 0} (k : Kind P) (s : Sound k) (card : Card) where
             share = share.1;
           }
         where
-          fewer : (xs : List P) (n v : ℕ) → turn + 1 ≤ suc n → n < wide k → All (λ q. first (wide k) (suc n) (code_of k q) ≡ v) xs → (u : ℕ) × All (λ q. first (wide k) (turn + 1) (code_of k q) ≡ u) xs
+          fewer : (xs : List P) (n v : ℕ) → turn + 1 ≤ suc n → n < wide k → AllByRecursion (λ q. first (wide k) (suc n) (code_of k q) ≡ v) xs → (u : ℕ) × AllByRecursion (λ q. first (wide k) (turn + 1) (code_of k q) ≡ u) xs
           fewer [] n v a b h = (0, tt)
           fewer (q ∷ xs) n v a b h = (first (wide k) (turn + 1) (code_of k q), All-weaker _ _ (λ x e. first_fewer (wide k) (suc n) (turn + 1) (code_of k x) (code_of k q) a b (e ∙ sym h.0)) (q ∷ xs) h)
 

@@ -2,7 +2,7 @@
 use Rattle.std.proofs.Common.{◌≡◌, ℕ, zero, suc, ◌+◌, ◌*◌, ◌≤◌, List, ◌∷◌, ◌++◌, length, sym, refl, ap, ◌∙◌, subst, add-mul, arith, length-append}
 use lib.Bits.{bit_xor}
 use lib.Count.{count_leading_zeros}
-use Rattle.std.specs.List.{AllByRecursion as All}
+use Rattle.std.specs.List.{AllByRecursion}
 use Rattle.zorder.specs.Code.{code}
 use Rattle.zorder.specs.Halves.{half}
 use Rattle.kinds.specs.Bytes.{bytes, form}
@@ -41,7 +41,7 @@ some_page (directory_at q n l h) = omega arith
 
 module _ {P : Type 0} (k : Kind P) (s : Sound k) where
   -- a record is as long as an entry
-  record_long : (sort : ℕ) (ps : List P) → 1 ≤ length ps → All (On k) ps → length (outline_record k sort ps) ≡ entry_length k
+  record_long : (sort : ℕ) (ps : List P) → 1 ≤ length ps → AllByRecursion (On k) ps → length (outline_record k sort ps) ≡ entry_length k
   record_long sort ps some on =
       let c = corners_on k s ps some on in
       let a = form_length k.axes (low_corner k ps) c.0 in
@@ -55,11 +55,11 @@ module _ {P : Type 0} (k : Kind P) (s : Sound k) where
     outline_long ps (data_at q xs) st =
         let e = points_are k s card ps (data_at q xs) st in
         let some = some_points k s card ps (data_at q xs) st in
-        record_long 1 xs (subst (λ ys. 1 ≤ length ys) (sym e) some) (subst (All (On k)) (sym e) st.is_set.on) ∙ (let z : entry_length k ≡ 1 * entry_length k = omega arith in z)
+        record_long 1 xs (subst (λ ys. 1 ≤ length ys) (sym e) some) (subst (AllByRecursion (On k)) (sym e) st.is_set.on) ∙ (let z : entry_length k ≡ 1 * entry_length k = omega arith in z)
     outline_long ps (directory_at q n l h) st =
         let e = points_are k s card ps (directory_at q n l h) st in
         let some = some_points k s card ps (directory_at q n l h) st in
-        let a = record_long 2 (below_it (directory_at q n l h)) (subst (λ ys. 1 ≤ length ys) (sym e) some) (subst (All (On k)) (sym e) st.is_set.on) in
+        let a = record_long 2 (below_it (directory_at q n l h)) (subst (λ ys. 1 ≤ length ys) (sym e) some) (subst (AllByRecursion (On k)) (sym e) st.is_set.on) in
         let low = outline_long (half (code_of k) (wide k) n 0 ps) l (standing_low k s card ps q n l h st) in
         let high = outline_long (half (code_of k) (wide k) n 1 ps) h (standing_high k s card ps q n l h st) in
         let b = length-append (outline_record k 2 (below_it (directory_at q n l h))) (outline k (shape l) ++ outline k (shape h)) in

@@ -1,6 +1,6 @@
 -- Each cause makes the bytes senseless.
 use Rattle.std.proofs.Common.{◌≡◌, ℕ, zero, suc, ◌+◌, ◌-◌, ◌*◌, ◌<◌, ◌≤◌, Bool, true, false, ◌≢◌, List, [], ◌∷◌, length, get_or, take, drop, replicate, Some, None, MatchBool, Option, sym, refl, ap, ◌∙◌, subst, arith, length-drop, get_or-drop}
-use Rattle.std.specs.List.{flat_map, AllByRecursion as All}
+use Rattle.std.specs.List.{flat_map, AllByRecursion}
 use Rattle.std.proofs.ByRecursion.{All-get_or}
 use Rattle.zorder.specs.Code.{OnAxes}
 use Rattle.zorder.specs.Sharing.{Under}
@@ -101,7 +101,7 @@ pub causes_law : {P : Type 0} (k : Kind P) → Sound k → CausesLaw k
 causes_law k laws bs w = (refused k laws bs w).0
 
 -- the end of a data page: the bytes after its points are all zero, or one of them is not
-pub data_end : {P : Type 0} (k : Kind P) → Sound k → (bs : List ℕ) (ps : List Point) (r : ℕ) (t : Bool) → length bs ≡ 64 → get_or bs 0 0 ≡ k.data_kind → length ps ≡ get_or bs 1 0 → 1 ≤ get_or bs 1 0 → get_or bs 1 0 ≤ k.capacity → All (OnAxes k.axes) ps
+pub data_end : {P : Type 0} (k : Kind P) → Sound k → (bs : List ℕ) (ps : List Point) (r : ℕ) (t : Bool) → length bs ≡ 64 → get_or bs 0 0 ≡ k.data_kind → length ps ≡ get_or bs 1 0 → 1 ≤ get_or bs 1 0 → get_or bs 1 0 ≤ k.capacity → AllByRecursion (OnAxes k.axes) ps
     → flat_map (form k.axes) ps ≡ take (get_or bs 1 0 * size k.axes) (drop 2 bs) → r ≡ size k.axes
     → MatchBool t (AllZero (take (length bs - (2 + get_or bs 1 0 * r)) (drop (2 + get_or bs 1 0 * r) bs))) (AllZero (take (length bs - (2 + get_or bs 1 0 * r)) (drop (2 + get_or bs 1 0 * r) bs)) → ⊥) → DataRead k bs t
 data_end k laws bs ps r true whole kind l one fit on j e z =

@@ -1,6 +1,6 @@
 -- The laws of the page format.
 use Rattle.std.proofs.Common.{ℕ, zero, suc, ◌+◌, ◌-◌, ◌*◌, ◌/◌, ◌<◌, ◌≤◌, List, [], ◌∷◌, ◌++◌, length, replicate, ℤ, Some, None, Option, sym, refl, ◌∙◌, subst, mul-le-mul_right, arith, length-append}
-use Rattle.std.specs.List.{flat_map, AllByRecursion as All}
+use Rattle.std.specs.List.{flat_map, AllByRecursion}
 use Rattle.std.proofs.ByRecursion.{All-append}
 use Rattle.zorder.specs.Code.{Axis}
 use Rattle.kinds.specs.Bytes.{bytes, complement, form, size}
@@ -16,7 +16,7 @@ use Rattle.page.proofs.Writing.{padded_long}
 
 -- numbers that are bytes
 abbrev Bytes : List ℕ → Type 0
-Bytes xs = All (λ b. b < 256) xs
+Bytes xs = AllByRecursion (λ b. b < 256) xs
 
 number_bytes : (n x : ℕ) → Bytes (bytes n x)
 number_bytes zero x = tt

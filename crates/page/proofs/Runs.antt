@@ -1,6 +1,6 @@
 -- The parts of a data page.
 use Rattle.std.proofs.Common.{◌≡◌, ℕ, zero, suc, ◌+◌, ◌-◌, ◌*◌, ◌<◌, ◌≤◌, List, [], ◌∷◌, ◌++◌, length, get_or, take, drop, replicate, sym, refl, ap, ◌∙◌, append_assoc, mul-le-mul_right, suc-mul, add-mul, one-mul, arith, length-append, length-drop}
-use Rattle.std.specs.List.{flat_map, AllByRecursion as All}
+use Rattle.std.specs.List.{flat_map, AllByRecursion}
 use Rattle.std.proofs.lemmas.List.{take_at, take_all, drop_at, append-nil}
 use Rattle.zorder.specs.Code.{OnAxes}
 use Rattle.kinds.specs.Bytes.{form, size}
@@ -56,12 +56,12 @@ module _ {X : Type 0} (F : X → List ℕ) (s : ℕ) where
   joined_append [] ys = refl
   joined_append (x ∷ xs) ys = ap (λ z. F x ++ z) (joined_append xs ys) ∙ sym (append_assoc (F x) (flat_map F xs) (flat_map F ys))
 
-  pub joined_length : (xs : List X) → All (λ x. length (F x) ≡ s) xs → length (flat_map F xs) ≡ length xs * s
+  pub joined_length : (xs : List X) → AllByRecursion (λ x. length (F x) ≡ s) xs → length (flat_map F xs) ≡ length xs * s
   joined_length [] h = omega arith
   joined_length (x ∷ xs) h = let a = length-append (F x) (flat_map F xs) in let b = joined_length xs h.1 in let c = h.0 in let d = suc-mul (length xs) s in omega arith
 
   -- one point after i others
-  joined_part : (xs : List X) (i : ℕ) (d : X) (u : List ℕ) → All (λ x. length (F x) ≡ s) xs → i < length xs → take s (drop (i * s) (flat_map F xs ++ u)) ≡ F (get_or xs i d)
+  joined_part : (xs : List X) (i : ℕ) (d : X) (u : List ℕ) → AllByRecursion (λ x. length (F x) ≡ s) xs → i < length xs → take s (drop (i * s) (flat_map F xs ++ u)) ≡ F (get_or xs i d)
   joined_part [] i d u h lt = absurd (omega arith)
   joined_part (x ∷ xs) zero d u h lt = let e : zero * s ≡ 0 = omega arith in ap (λ n. take s (drop n ((F x ++ flat_map F xs) ++ u))) e ∙ ap (take s) (append_assoc (F x) (flat_map F xs) u) ∙ take_at (F x) (flat_map F xs ++ u) s h.0
   joined_part (x ∷ xs) (suc i) d u h lt =
@@ -77,7 +77,7 @@ module _ {P : Type 0} (k : Kind P) (bs : List ℕ) where
   F : Point → List ℕ
   F p = form k.axes p
 
-  pub forms : (ps : List Point) → All (OnAxes k.axes) ps → All (λ p. length (form k.axes p) ≡ size k.axes) ps
+  pub forms : (ps : List Point) → AllByRecursion (OnAxes k.axes) ps → AllByRecursion (λ p. length (form k.axes p) ≡ size k.axes) ps
   forms [] h = tt
   forms (p ∷ ps) h = (form_length k.axes p h.0, forms ps h.1)
 
@@ -115,7 +115,7 @@ module _ {P : Type 0} (k : Kind P) (bs : List ℕ) where
   two_first (x ∷ (y ∷ xs)) h = refl
 
   -- the page made of its parts
-  pub data_reads : (ps : List Point) (n : ℕ) → length bs ≡ 64 → get_or bs 0 0 ≡ k.data_kind → get_or bs 1 0 ≡ n → length ps ≡ n → 1 ≤ n → n ≤ k.capacity → All (OnAxes k.axes) ps
+  pub data_reads : (ps : List Point) (n : ℕ) → length bs ≡ 64 → get_or bs 0 0 ≡ k.data_kind → get_or bs 1 0 ≡ n → length ps ≡ n → 1 ≤ n → n ≤ k.capacity → AllByRecursion (OnAxes k.axes) ps
       → flat_map (form k.axes) ps ≡ take (n * size k.axes) (drop 2 bs) → (m : ℕ) → drop (n * size k.axes) (drop 2 bs) ≡ replicate m 0 → m ≡ 64 - (2 + n * size k.axes) → Reads k bs (data_view ps)
   unfolding encode
   data_reads ps n whole kind c l one fit on j m z e =

@@ -1,7 +1,7 @@
 -- One pass over the points of a data page.
 use Rattle.std.proofs.Common.{◌≡◌, ℕ, ◌+◌, ◌-◌, ◌*◌, ◌<◌, ◌≤◌, List, [], ◌∷◌, length, get_or, take, drop, Some, None, Option, sym, ap, ◌∙◌, subst, arith}
 use Rattle.std.specs.Int.{int_min, int_max}
-use Rattle.std.specs.List.{AllByRecursion as All}
+use Rattle.std.specs.List.{AllByRecursion}
 use Rattle.std.proofs.lemmas.List.{drop_more, drop_all}
 use Rattle.std.proofs.ByRecursion.{All-weaker, All-get_or}
 use Rattle.zorder.specs.Sharing.{on_each, corner}
@@ -19,7 +19,7 @@ use Rattle.page.proofs.Runs.{point_part}
 module _ {P : Type 0} (k : Kind P) (ps : List Point) where
   -- codes rise on from one
   abbrev pub After : ℕ → List Point → Type 0
-  After c xs = All (λ x. c < code k.axes x) xs × Rising (code k.axes) xs
+  After c xs = AllByRecursion (λ x. c < code k.axes x) xs × Rising (code k.axes) xs
 
   -- after i points: what is left decides the rest
   pub record Scan (i : ℕ) (lo hi : Point) (last : ℕ) : Type 0 where
@@ -40,8 +40,8 @@ module _ {P : Type 0} (k : Kind P) (ps : List Point) where
     scan_more gt lo' hi' el eh = record {
       lows = s.lows ∙ ap (corner int_min lo) next ∙ ap (λ x. corner int_min x (drop (i + 1) ps)) (sym el);
       highs = s.highs ∙ ap (corner int_max hi) next ∙ ap (λ x. corner int_max x (drop (i + 1) ps)) (sym eh);
-      to = λ r. let a = subst (After last) next (s.to r) in (subst (λ x. All (λ y. x < code k.axes y) (drop (i + 1) ps)) (sym ce) a.1.0, a.1.1);
-      from = λ a. s.from (subst (After last) (sym next) (((omega (arith, gt, ce)), All-weaker _ _ (λ y h. omega (arith, gt, h)) (drop (i + 1) ps) a.0), (subst (λ x. All (λ y. x < code k.axes y) (drop (i + 1) ps)) ce a.0, a.1)));
+      to = λ r. let a = subst (After last) next (s.to r) in (subst (λ x. AllByRecursion (λ y. x < code k.axes y) (drop (i + 1) ps)) (sym ce) a.1.0, a.1.1);
+      from = λ a. s.from (subst (After last) (sym next) (((omega (arith, gt, ce)), All-weaker _ _ (λ y h. omega (arith, gt, h)) (drop (i + 1) ps) a.0), (subst (λ x. AllByRecursion (λ y. x < code k.axes y) (drop (i + 1) ps)) ce a.0, a.1)));
     }
 
   pub scan_end : (i : ℕ) (lo hi : Point) (last : ℕ) → length ps ≤ i → Scan i lo hi last → (low_of ps ≡ lo) × (high_of ps ≡ hi) × Rising (code k.axes) ps
@@ -54,8 +54,8 @@ scan_one k [] p c some at ce = absurd (omega arith)
 scan_one k (x ∷ xs) p c some at ce = record {
   lows = ap (λ y. corner int_min y xs) at;
   highs = ap (λ y. corner int_max y xs) at;
-  to = λ r. (subst (λ y. All (λ z. y < code k.axes z) xs) (ap (code k.axes) at ∙ sym ce) r.0, r.1);
-  from = λ a. (subst (λ y. All (λ z. y < code k.axes z) xs) (ce ∙ ap (code k.axes) (sym at)) a.0, a.1);
+  to = λ r. (subst (λ y. AllByRecursion (λ z. y < code k.axes z) xs) (ap (code k.axes) at ∙ sym ce) r.0, r.1);
+  from = λ a. (subst (λ y. AllByRecursion (λ z. y < code k.axes z) xs) (ce ∙ ap (code k.axes) (sym at)) a.0, a.1);
 }
 
 -- the point that was read is the point that stands there

@@ -2,7 +2,7 @@
 use Rattle.std.proofs.Common.{◌≡◌, ℕ, ◌-◌, ◌*◌, cond, eqb, List, [], ◌∷◌, ◌++◌, length, replicate, Some, None, Option, sym, refl, ap, ◌∙◌, append_assoc, arith, length-append}
 use Rattle.std.proofs.lemmas.Bool.{eq-eqb, cond-true}
 use lib.ListN.{length-replicate}
-use Rattle.std.specs.List.{flat_map, AllByRecursion as All}
+use Rattle.std.specs.List.{flat_map, AllByRecursion}
 use Rattle.zorder.specs.Code.{OnAxes}
 use Rattle.kinds.specs.Bytes.{bytes, form, size}
 use Rattle.kinds.proofs.Byteform.{bytes_split, form_split, form_length}
@@ -61,7 +61,7 @@ module _ {P : Type 0} (k : Kind P) (laws : Sound k) where
           ∙ ap (λ x. record { page = f.page; count = f.count; low = x; high = e.high }) c
           ∙ ap (λ x. record { page = f.page; count = f.count; low = f.low; high = x }) d
 
-  pub points_split : (ps qs : List Point) (u v : List ℕ) → length ps ≡ length qs → All (OnAxes k.axes) ps → All (OnAxes k.axes) qs → flat_map (form k.axes) ps ++ u ≡ flat_map (form k.axes) qs ++ v → ps ≡ qs
+  pub points_split : (ps qs : List Point) (u v : List ℕ) → length ps ≡ length qs → AllByRecursion (OnAxes k.axes) ps → AllByRecursion (OnAxes k.axes) qs → flat_map (form k.axes) ps ++ u ≡ flat_map (form k.axes) qs ++ v → ps ≡ qs
   points_split [] [] u v l g h e = refl
   points_split [] (q ∷ qs) u v l g h e = absurd (omega arith)
   points_split (p ∷ ps) [] u v l g h e = absurd (omega arith)

@@ -1,6 +1,6 @@
 -- Which fields a page may have.
 use Rattle.std.specs.Prelude.{◌≡◌, ℕ, ◌^◌, ◌<◌, ◌≤◌, ◌≢◌, List, length, Some, None, Option}
-use Rattle.std.specs.List.{AllByRecursion as All}
+use Rattle.std.specs.List.{AllByRecursion}
 use Rattle.zorder.specs.Code.{OnAxes}
 use Rattle.zorder.specs.Sharing.{Under}
 use Rattle.kinds.specs.Kind.{Kind, Sound, wide}
@@ -11,7 +11,7 @@ module _ {P : Type 0} (k : Kind P) where
   pub record DataFields (ps : List Point) : Type 0 where
     pub some : 1 ≤ length ps
     pub fit : length ps ≤ k.capacity
-    pub on_axes : All (OnAxes k.axes) ps
+    pub on_axes : AllByRecursion (OnAxes k.axes) ps
 
   -- an entry's corners are on their axes, and the low one is nowhere above the high one
   pub record EntryFields (e : Summary) : Type 0 where

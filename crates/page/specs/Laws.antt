@@ -1,6 +1,6 @@
 -- Laws of the page format, for a kind of points.
 use Rattle.std.specs.Prelude.{◌≡◌, ℕ, ◌<◌, List, length}
-use Rattle.std.specs.List.{AllByRecursion as All}
+use Rattle.std.specs.List.{AllByRecursion}
 use Rattle.kinds.specs.Kind.{Kind}
 use Rattle.page.specs.Form.{Summary, View, encode}
 use Rattle.page.specs.Fields.{Fields, Reads}
@@ -14,7 +14,7 @@ module _ {P : Type 0} (k : Kind P) where
 
   -- .. each of which is a byte.
   abbrev pub ByteLaw : Type 0
-  ByteLaw = (v : View) → Fields k v → All (λ b. b < 256) (encode k v)
+  ByteLaw = (v : View) → Fields k v → AllByRecursion (λ b. b < 256) (encode k v)
 
   -- What was written reads back as what was meant, and as nothing else.
   abbrev pub BackLaw : Type 0

@@ -1,6 +1,6 @@
 -- A put beside a directory page whose first bits the point does not share.
 use Rattle.std.proofs.Common.{◌≡◌, ℕ, zero, suc, ◌+◌, ◌%◌, ◌<◌, ◌≤◌, true, false, List, [], ◌∷◌, ◌++◌, length, set, Some, None, Ok, Err, Option, sym, refl, ap, ◌∙◌, subst, ⊎_elim, arith}
-use Rattle.std.specs.List.{AllByRecursion as All}
+use Rattle.std.specs.List.{AllByRecursion}
 use Rattle.std.proofs.lemmas.List.{get_or-set_same, get_or-set_other, length-set}
 use Rattle.std.proofs.lemmas.Bool.{cases_eq}
 use Rattle.std.proofs.ByRecursion.{All-append, All-weaker}
@@ -65,7 +65,7 @@ module _ {P : Type 0} (k : Kind P) (s : Sound k) where
     ne : bit_at W m lc ≡ bit_at W m (C p) → ⊥
     ne = let a = d.short in sh.differ (omega arith)
 
-    bits : All (λ x. bit_at W m (C x) ≡ bit_at W m lc) ps
+    bits : AllByRecursion (λ x. bit_at W m (C x) ≡ bit_at W m lc) ps
     bits = let a = d.short in All-weaker _ _ (λ x g. ap (λ y. y % 2) (first_fewer W n (suc m) (C x) lc lt (omega arith) (g ∙ sym fr))) ps d.share
 
     -- the point does not share the first bits
@@ -86,7 +86,7 @@ module _ {P : Type 0} (k : Kind P) (s : Sound k) where
     pub new_depth : Depth C W m (with_point C p (below_it t))
     new_depth =
         let a = d.short in
-        let firsts : All (λ x. first W m (C x) ≡ first W m (C p)) ps = All-weaker _ _ (λ x g. first_fewer W n m (C x) lc (omega arith) (omega arith) (g ∙ sym fr) ∙ sh.agree) ps d.share in
+        let firsts : AllByRecursion (λ x. first W m (C x) ≡ first W m (C p)) ps = All-weaker _ _ (λ x g. first_fewer W n m (C x) lc (omega arith) (omega arith) (g ∙ sym fr) ∙ sh.agree) ps d.share in
         let part : Parted C W m (with_point C p ps) = record { short = omega arith; front = first W m (C p); share = all_with C _ p ps refl firsts; low = some 0 (omega arith); high = some 1 (omega arith) } in
         subst (λ a. Depth C W m (with_point C p a)) (sym all_is) (parted_depth C W m (with_point C p ps) part)
 

@@ -1,6 +1,6 @@
 -- The free chain of a lawful card, as it is read.
 use Rattle.std.proofs.Common.{◌≡◌, ℕ, ◌-◌, ◌<◌, ◌≤◌, List, [], ◌∷◌, length, get_or, Some, Ok, Err, ap, ◌∙◌, subst, arith}
-use Rattle.std.specs.List.{AllByRecursion as All}
+use Rattle.std.specs.List.{AllByRecursion}
 use Rattle.std.proofs.ByRecursion.{All-weaker}
 use Rattle.kinds.specs.Kind.{Kind, Sound}
 use Rattle.page.specs.declared.fault.PageFault.{PageFault}
@@ -32,13 +32,13 @@ module _ {P : Type 0} (k : Kind P) where
       pub is : qs ≡ first ∷ rest
       pub reads : Reads k (page card first) (free_view (front rest))
       pub chained : Chained k card rest
-      pub fit : All (λ q. q < 65536) rest
+      pub fit : AllByRecursion (λ q. q < 65536) rest
 
-    front_fits : (qs : List ℕ) → All (λ q. q < 65536) qs → front qs < 65536
+    front_fits : (qs : List ℕ) → AllByRecursion (λ q. q < 65536) qs → front qs < 65536
     front_fits [] h = omega arith
     front_fits (q ∷ qs) h = h.0
 
-    pub link : (first : ℕ) (qs : List ℕ) → Chained k card qs → All (λ q. q < 65536) qs → 1 ≤ length qs → front qs ≡ first → Link first qs
+    pub link : (first : ℕ) (qs : List ℕ) → Chained k card qs → AllByRecursion (λ q. q < 65536) qs → 1 ≤ length qs → front qs ≡ first → Link first qs
     link first [] c h some e = absurd (omega arith)
     link first (q ∷ qs) c h some e = record {
       rest = qs;
@@ -52,7 +52,7 @@ module _ {P : Type 0} (k : Kind P) where
     next_is first next qs l r = let v = one_view_law P k s (page card first) _ _ l.reads r in cc
 
     module _ (set : List P) (w : Lawful k card set) where
-      pub chain_fits : All (λ q. q < 65536) w.chain
+      pub chain_fits : AllByRecursion (λ q. q < 65536) w.chain
       chain_fits = let n = w.size.1 in All-weaker _ _ (λ q lt. omega arith) w.chain (all_back _ (root_numbers w.root) w.chain (all_within k s card set w))
 
       -- the first page of the chain

@@ -1,6 +1,6 @@
 -- A put into a data page.
 use Rattle.std.proofs.Common.{◌≡◌, ℕ, ◌+◌, ◌<◌, ◌≤◌, Bool, true, false, List, [], ◌∷◌, ◌++◌, map, length, set, Some, None, Ok, Err, Option, sym, refl, ap, ◌∙◌, subst, arith}
-use Rattle.std.specs.List.{AllByRecursion as All}
+use Rattle.std.specs.List.{AllByRecursion}
 use Rattle.std.proofs.lemmas.List.{get_or-set_same, get_or-set_other, length-set}
 use Rattle.refusal.specs.declared.Refusal.TheVariants.{Live, Full}
 use Rattle.zorder.specs.Halves.{half, Rising}
@@ -45,8 +45,8 @@ module _ {P : Type 0} (k : Kind P) (s : Sound k) where
     abbrev up : Rising C xs
     up = subst (Rising C) same w.reached.stands.is_set.rising
 
-    abbrev on_all : All (On k) xs
-    on_all = subst (All (On k)) same w.reached.stands.is_set.on
+    abbrev on_all : AllByRecursion (On k) xs
+    on_all = subst (AllByRecursion (On k)) same w.reached.stands.is_set.on
 
     abbrev at : e.page ≡ q
     at = ap (λ x. x.page) w.reached.at

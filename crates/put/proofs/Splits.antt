@@ -1,7 +1,7 @@
 -- Splitting points that are not all one, on any card: both halves have a point.
 use Rattle.std.proofs.Common.{◌≡◌, ℕ, ◌+◌, ◌<◌, ◌≤◌, false, List, [], ◌∷◌, map, length, ℤ, sym, refl, ap, ◌∙◌, subst, ⊎_elim, arith}
 use lib.Arith.{lt_of_le-ne}
-use Rattle.std.specs.List.{AllByRecursion as All}
+use Rattle.std.specs.List.{AllByRecursion}
 use Rattle.std.proofs.lemmas.List.{length-set}
 use Rattle.std.proofs.lemmas.Bool.{eq-eqb, ne_eqb, cond-true, cond-false}
 use Rattle.std.proofs.ByRecursion.{All-weaker, All-map}
@@ -47,11 +47,11 @@ module _ {P : Type 0} (code : P → ℕ) (w n : ℕ) where
     ⊎_elim (λ h. h) (λ all. absurd (none (λ x ne. not_zero w n x ne ∙ sym (not_zero w n (code p) all.0)) 1 all.1)) (half_cases code w n 1 (p ∷ ps)),
   )
     where
-      none : {c : ℕ} → ((x : ℕ) → (bit_at w n x ≡ c → ⊥) → bit_at w n x ≡ bit_at w n (code p)) → (b : ℕ) → All (λ x. bit_at w n (code x) ≡ c → ⊥) ps → ⊥
+      none : {c : ℕ} → ((x : ℕ) → (bit_at w n x ≡ c → ⊥) → bit_at w n x ≡ bit_at w n (code p)) → (b : ℕ) → AllByRecursion (λ x. bit_at w n (code x) ≡ c → ⊥) ps → ⊥
       none other b all = d.differ lt (All-map _ code ps (All-weaker _ _ (λ x ne. sym (other (code x) ne)) ps all))
 
   -- points that are not all one have a depth below w
-  pub mixed_short : (ps : List P) → ((c : ℕ) → All (λ q. code q ≡ c) ps → ⊥) → Depth code w n ps → n < w
+  pub mixed_short : (ps : List P) → ((c : ℕ) → AllByRecursion (λ q. code q ≡ c) ps → ⊥) → Depth code w n ps → n < w
   mixed_short [] mixed d = absurd d
   mixed_short (p ∷ ps) mixed d =
       lt_of_le-ne d.within (λ e. mixed (code p) (refl, All-weaker _ _ (λ x s. sym (first_whole w (code x)) ∙ sym (subst (λ i. first w i (code p) ≡ first w i (code x)) e s) ∙ first_whole w (code p)) ps (all_unmap _ code ps d.agree)))
@@ -66,8 +66,8 @@ module _ {P : Type 0} (k : Kind P) (s : Sound k) where
       out.0 (r.0 ∙ sym r.1.0)
 
   -- the depth of points from their corners
-  pub depth_of : (n : ℕ) (low high : List ℤ) (xs : List P) → 1 ≤ length xs → All (On k) xs → low ≡ low_corner k xs → high ≡ high_corner k xs
-      → ((p : P) (ps : List P) → All (On k) (p ∷ ps) → low ≡ low_corner k (p ∷ ps) → high ≡ high_corner k (p ∷ ps) → Common (wide k) n (code_of k p) (map (code_of k) ps)) → Depth (code_of k) (wide k) n xs
+  pub depth_of : (n : ℕ) (low high : List ℤ) (xs : List P) → 1 ≤ length xs → AllByRecursion (On k) xs → low ≡ low_corner k xs → high ≡ high_corner k xs
+      → ((p : P) (ps : List P) → AllByRecursion (On k) (p ∷ ps) → low ≡ low_corner k (p ∷ ps) → high ≡ high_corner k (p ∷ ps) → Common (wide k) n (code_of k p) (map (code_of k) ps)) → Depth (code_of k) (wide k) n xs
   depth_of n low high [] some on l h f = absurd (omega arith)
   depth_of n low high (x ∷ xs) some on l h f = f x xs on l h
 
@@ -93,10 +93,10 @@ module _ {P : Type 0} (k : Kind P) (s : Sound k) where
   pub entry_of : (e : Entry P) (q : ℕ) (xs ys : List P) → xs ≡ ys → e.page ≡ q → e.count ≡ length xs → k.coords e.low ≡ low_corner k xs → k.coords e.high ≡ high_corner k xs → summary k e ≡ entry k (data_at q ys)
   entry_of e q xs ys same page count low high = same_summary (summary k e) (entry k (data_at q ys)) page (count ∙ ap length same) (low ∙ ap (low_corner k) same) (high ∙ ap (high_corner k) same)
 
-  pub low_corner_on : (z : List ℤ) (xs : List P) → 1 ≤ length xs → All (On k) xs → z ≡ low_corner k xs → OnAxes k.axes z
+  pub low_corner_on : (z : List ℤ) (xs : List P) → 1 ≤ length xs → AllByRecursion (On k) xs → z ≡ low_corner k xs → OnAxes k.axes z
   low_corner_on z xs some on e = subst (OnAxes k.axes) (sym e) (corners_on k s xs some on).0
 
-  pub high_corner_on : (z : List ℤ) (xs : List P) → 1 ≤ length xs → All (On k) xs → z ≡ high_corner k xs → OnAxes k.axes z
+  pub high_corner_on : (z : List ℤ) (xs : List P) → 1 ≤ length xs → AllByRecursion (On k) xs → z ≡ high_corner k xs → OnAxes k.axes z
   high_corner_on z xs some on e = subst (OnAxes k.axes) (sym e) (corners_on k s xs some on).1
 
   -- a split keeps the number of pages

@@ -1,7 +1,7 @@
 -- How a put into a part of the tree ends.
 use Rattle.std.specs.Prelude.{◌≡◌, ℕ, suc, ◌+◌, ◌^◌, ◌<◌, ◌≤◌, Bool, true, false, ◌⊎◌, List, [], ◌∷◌, ◌++◌, map, length, Some, None, Ok, Err, Option, Result, slice_set}
 use Rattle.std.specs.Int.{int_min, int_max}
-use Rattle.std.specs.List.{AllByRecursion as All}
+use Rattle.std.specs.List.{AllByRecursion}
 use Rattle.refusal.specs.declared.Refusal.{Refusal}
 use Rattle.refusal.specs.declared.Refusal.TheVariants.{Live, Full}
 use Rattle.refusal.specs.Numbers.{number}
@@ -41,7 +41,7 @@ module _ {P : Type 0} (k : Kind P) where
 
   -- not all codes are equal
   abbrev pub Mixed : List P → Type 0
-  Mixed ps = (c : ℕ) → All (λ q. code_of k q ≡ c) ps → ⊥
+  Mixed ps = (c : ℕ) → AllByRecursion (λ q. code_of k q ≡ c) ps → ⊥
 
   -- The points are split at their depth: the page keeps the low half, the new data page has the high half, and the new directory page leads to both.
   pub record Split (before : Card) (ps : List P) (q : ℕ) (x : Spare) (r : Grown P) (after : Card) : Type 0 where

@@ -1,6 +1,6 @@
 // A point into a part of the tree. On the way down pages are read and all that can be refused is decided; pages are written on the way up.
 ghost use Rattle.std.specs.Prelude.{◌≡◌, ℕ, ◌+◌, ◌^◌, ◌<◌, ◌≤◌, true, false, List, length};
-ghost use Rattle.std.specs.List.{AllByRecursion as All};
+ghost use Rattle.std.specs.List.{AllByRecursion};
 ghost use Rattle.kinds.specs.Kind.{On, wide};
 ghost use Rattle.page.specs.Form.{directory_view, encode};
 ghost use Rattle.page.specs.Checks.{summary};
@@ -73,7 +73,7 @@ fn split<K: PointKind, S: PageStore>(
     page: u16,
     spare: Spare,
 ) -> Grown<K>
-    requires on { All (On K.PointKind.kind) (listed points.now) }
+    requires on { AllByRecursion (On K.PointKind.kind) (listed points.now) }
     requires few { length (listed points.now) ≤ K.PointKind.kind.capacity + 1 }
     requires some { 1 ≤ length (listed points.now) }
     requires mixed { Mixed K.PointKind.kind (listed points.now) }
@@ -105,10 +105,10 @@ fn put_here<K: PointKind, S: PageStore>(
     spare: Option<Spare>,
 ) -> Result<Grown<K>, Refusal>
     requires on { On K.PointKind.kind p.now }
-    requires all_on { All (On K.PointKind.kind) (listed points.now) }
+    requires all_on { AllByRecursion (On K.PointKind.kind) (listed points.now) }
     requires few { length (listed points.now) ≤ K.PointKind.kind.capacity }
     requires there { at.now.page < length (S.PageStore.pages store.old) }
-    requires spare_there { All (λ q. q < length (S.PageStore.pages store.old)) (spares spare) }
+    requires spare_there { AllByRecursion (λ q. q < length (S.PageStore.pages store.old)) (spares spare) }
     ensures lawful { (ps : List K) (above q : ℕ) → Growing K.PointKind.kind (S.PageStore.pages store.old) ps (summary K.PointKind.kind at.now) spare above (data_at q (listed points.now)) → PutEnd K.PointKind.kind (S.PageStore.pages store.old) ps p.now spare (data_at q (listed points.now)) result (S.PageStore.pages store.new) }
     ensures always { AnyEnd (S.PageStore.pages store.old) result (S.PageStore.pages store.new) }
 {
@@ -167,7 +167,7 @@ pub(crate) fn insert<K: PointKind, S: PageStore>(
     requires on { On K.PointKind.kind p.now }
     requires low_on { On K.PointKind.kind at.low }
     requires short { above ≤ wide K.PointKind.kind }
-    requires spare_there { All (λ q. q < length (S.PageStore.pages store.old)) (spares spare) }
+    requires spare_there { AllByRecursion (λ q. q < length (S.PageStore.pages store.old)) (spares spare) }
     ensures lawful { (ps : List K) (t : Laid K) → Growing K.PointKind.kind (S.PageStore.pages store.old) ps (summary K.PointKind.kind at) spare above t → PutEnd K.PointKind.kind (S.PageStore.pages store.old) ps p.now spare t result (S.PageStore.pages store.new) }
     ensures always { AnyEnd (S.PageStore.pages store.old) result (S.PageStore.pages store.new) }
 {

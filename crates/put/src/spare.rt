@@ -1,6 +1,6 @@
 // The free pages that a put may use.
 ghost use Rattle.std.specs.Prelude.{◌≡◌, ℕ, ◌<◌, List, length, MatchResult};
-ghost use Rattle.std.specs.List.{AllByRecursion as All};
+ghost use Rattle.std.specs.List.{AllByRecursion};
 ghost use Rattle.refusal.specs.Numbers.{number};
 ghost use Rattle.page.specs.Form.{free_view};
 ghost use Rattle.page.specs.Fields.{Reads};
@@ -51,7 +51,7 @@ pub(crate) fn spare_pages<K: PointKind, S: PageStore>(
     head: &Head<K>,
 ) -> Result<Option<Spare>, Refusal>
     ensures lawful { (set : List K) (w : Lawful K.PointKind.kind (S.PageStore.pages store.old) set) → front w.chain ≡ head.now.first → length w.chain ≡ head.now.free → SpareOf w.chain result }
-    ensures always { MatchResult result (λ o. All (λ q. q < length (S.PageStore.pages store.old)) (spares o)) (λ e. number e ≡ 9) }
+    ensures always { MatchResult result (λ o. AllByRecursion (λ q. q < length (S.PageStore.pages store.old)) (spares o)) (λ e. number e ≡ 9) }
     ensures keeps { S.PageStore.pages store.new ≡ S.PageStore.pages store.old }
 {
     if head.free < PAIR {

@@ -1,7 +1,7 @@
 -- What stands in the buffer of list.
 use Rattle.std.proofs.Common.{◌≡◌, ℕ, ◌+◌, ◌<◌, ◌≤◌, ◌⊎◌, List, [], ◌∷◌, ◌++◌, length, take, drop, set, sym, refl, ap, ◌∙◌, subst, inl, inr, ⊎_elim, arith, length-append, length-drop, length-set, length-take, take_all}
 use lib.Seq.{take-append-le}
-use Rattle.std.specs.List.{AllByRecursion as All}
+use Rattle.std.specs.List.{AllByRecursion}
 use Rattle.std.proofs.ByRecursion.{All-append}
 use Rattle.std.proofs.lemmas.List.{take_more_set, drop_all, drop-append-le, drop-drop, drop-set-lt}
 use Rattle.std.proofs.lemmas.Bool.{cases_lt}
@@ -81,7 +81,7 @@ module _ {P : Type 0} (k : Kind P) (skip seen done : ℕ) (low high : P) (before
         count = omega arith;
         long = length-set buffer done p ∙ v.long;
         kept = drop-set-lt (done + 1) buffer done p (omega arith) ∙ sym (drop-drop 1 done buffer) ∙ ap (drop 1) v.kept ∙ drop-drop 1 done before;
-        good = subst (All _) (sym (take_more_set buffer done p lt)) (All-append _ (take done buffer) (p ∷ []) v.good ((on, inside), tt));
+        good = subst (AllByRecursion _) (sym (take_more_set buffer done p lt)) (All-append _ (take done buffer) (p ∷ []) v.good ((on, inside), tt));
       }
 
 -- ---- nothing met yet

@@ -1,7 +1,7 @@
 -- Windows over the points below an entry.
 use Rattle.std.proofs.Common.{◌≡◌, ℕ, Bool, true, false, cond, ◌&&◌, T, List, [], ◌∷◌, ◌++◌, map, ℤ, filter, sym, refl, ap, ◌∙◌, subst, ⊎_elim}
 use lib.Signed.{le_z, le_z_yes}
-use Rattle.std.specs.List.{AllByRecursion as All}
+use Rattle.std.specs.List.{AllByRecursion}
 use Rattle.std.proofs.lemmas.List.Elements.{filter-append}
 use Rattle.std.proofs.ByRecursion.{All-map, All-weaker}
 use Rattle.std.proofs.lemmas.Bool.{cases_Bool, and_parts, and_from, cond-true, cond-false}
@@ -38,11 +38,11 @@ test_under : {axs : List Axis} {p q : List ℤ} → Two axs p q → no_higher p 
 test_under no_axes e = tt
 test_under (two a x y {p = p} {q = q} h k t) e = let b = and_parts (le_z x y) (no_higher p q) e in (le_z_yes (of_true (le_z x y) b.0), test_under t b.1)
 
-kept_all : {X : Type 0} (test : X → Bool) (xs : List X) → All (λ x. test x ≡ true) xs → filter test xs ≡ xs
+kept_all : {X : Type 0} (test : X → Bool) (xs : List X) → AllByRecursion (λ x. test x ≡ true) xs → filter test xs ≡ xs
 kept_all test [] h = refl
 kept_all test (x ∷ xs) h = cond-true _ _ _ h.0 ∙ ap (λ ys. x ∷ ys) (kept_all test xs h.1)
 
-kept_none : {X : Type 0} (test : X → Bool) (xs : List X) → All (λ x. test x ≡ true → ⊥) xs → filter test xs ≡ []
+kept_none : {X : Type 0} (test : X → Bool) (xs : List X) → AllByRecursion (λ x. test x ≡ true → ⊥) xs → filter test xs ≡ []
 kept_none test [] h = refl
 kept_none test (x ∷ xs) h = ⊎_elim (λ t. absurd (h.0 t)) (λ f. cond-false _ _ _ f ∙ kept_none test xs h.1) (cases_Bool (test x))
 
@@ -69,19 +69,19 @@ module _ {P : Type 0} (k : Kind P) (w : Window P) (whole : Whole k w) where
   one_out p on out = cond-false _ _ _ (outside_test p on out)
 
   -- every point lies between the corners of its set
-  between : (ps : List P) → All (On k) ps → All (λ p. Inside (low_corner k ps) (high_corner k ps) (k.coords p)) ps
+  between : (ps : List P) → AllByRecursion (On k) ps → AllByRecursion (λ p. Inside (low_corner k ps) (high_corner k ps) (k.coords p)) ps
   between [] on = tt
   between (p ∷ ps) on = all_unmap (Inside (low_corner k (p ∷ ps)) (high_corner k (p ∷ ps))) k.coords (p ∷ ps) (window_law k.axes (k.coords p) (map k.coords ps) (All-map (OnAxes k.axes) k.coords (p ∷ ps) on)).1
 
   -- an entry whose corners miss the window has no point in it
-  pub missed : (ps : List P) → All (On k) ps → (Under (k.coords w.low) (high_corner k ps) × Under (low_corner k ps) (k.coords w.high) → ⊥) → windowed k w.low w.high ps ≡ []
+  pub missed : (ps : List P) → AllByRecursion (On k) ps → (Under (k.coords w.low) (high_corner k ps) × Under (low_corner k ps) (k.coords w.high) → ⊥) → windowed k w.low w.high ps ≡ []
   missed ps on miss =
       kept_none in_window ps (All-weaker _ _ (λ p h t.
       let i = test_inside p h.0 t in
       miss (under_then (k.coords w.low) (k.coords p) (high_corner k ps) i.0 h.1.1, under_then (low_corner k ps) (k.coords p) (k.coords w.high) h.1.0 i.1)) ps (all_and _ _ ps on (between ps on)))
 
   -- an entry whose corners both lie in the window has all its points in it
-  pub covered : (ps : List P) → All (On k) ps → Under (k.coords w.low) (low_corner k ps) → Under (high_corner k ps) (k.coords w.high) → windowed k w.low w.high ps ≡ ps
+  pub covered : (ps : List P) → AllByRecursion (On k) ps → Under (k.coords w.low) (low_corner k ps) → Under (high_corner k ps) (k.coords w.high) → windowed k w.low w.high ps ≡ ps
   covered ps on l h =
       kept_all in_window ps (All-weaker _ _ (λ p i. inside_test p (under_then (k.coords w.low) (low_corner k ps) (k.coords p) l i.0, under_then (k.coords p) (high_corner k ps) (k.coords w.high) i.1 h)) ps (between ps on))
 

@@ -1,6 +1,6 @@
 -- What list writes into its buffer.
 use Rattle.std.specs.Prelude.{◌≡◌, ℕ, ◌-◌, min, ◌⊎◌, List, length, take, drop, Ok, Err, Result}
-use Rattle.std.specs.List.{AllByRecursion as All}
+use Rattle.std.specs.List.{AllByRecursion}
 use Rattle.refusal.specs.declared.Refusal.{Refusal}
 use Rattle.refusal.specs.Numbers.{number}
 use Rattle.zorder.specs.Sharing.{Inside}
@@ -20,7 +20,7 @@ module _ {P : Type 0} (k : Kind P) where
     pub count : done ≡ min (length before) (seen - skip)
     pub long : length buffer ≡ length before
     pub kept : drop done buffer ≡ drop done before
-    pub good : All (λ p. On k p × Inside (k.coords low) (k.coords high) (k.coords p)) (take done buffer)
+    pub good : AllByRecursion (λ p. On k p × Inside (k.coords low) (k.coords high) (k.coords p)) (take done buffer)
 
   -- On a lawful card: the buffer has the points in its front and is otherwise kept; a refused call keeps it.
   abbrev pub ListBuffer : List P → P → P → ℕ → List P → List P → Result (ℕ × ℕ) Refusal → Type 0

@@ -1,6 +1,6 @@
 -- The part of a draft's tree below an entry, as a walk finds it on a card.
 use Rattle.std.specs.Prelude.{◌≡◌, ℕ, ◌≤◌, List, length}
-use Rattle.std.specs.List.{AllByRecursion as All}
+use Rattle.std.specs.List.{AllByRecursion}
 use Rattle.kinds.specs.Kind.{Kind, On, wide, low_corner, high_corner}
 use Rattle.page.specs.Form.{Summary}
 use Rattle.tree.specs.Laid.{Laid, numbers}
@@ -10,7 +10,7 @@ use Rattle.access.specs.Reached.{Reached}
 module _ {P : Type 0} (k : Kind P) where
   -- the points below an entry, all on their axes: the entry has their number and their corners
   pub record Below (ps : List P) (e : Summary) : Type 0 where
-    pub on : All (On k) ps
+    pub on : AllByRecursion (On k) ps
     pub counted : e.count ≡ length ps
     pub low_is : e.low ≡ low_corner k ps
     pub high_is : e.high ≡ high_corner k ps

@@ -1,6 +1,6 @@
 -- The card that a take leaves.
 use Rattle.std.proofs.Common.{◌≡◌, ℕ, suc, ◌+◌, ◌<◌, ◌≤◌, true, false, cond, ◌&&◌, ltb, leb, List, [], ◌∷◌, ◌++◌, length, set, Some, None, Option, sym, refl, ap, ◌∙◌, subst, ⊎_elim, arith, length-append}
-use Rattle.std.specs.List.{ContainsAt as Has, AllByRecursion as All}
+use Rattle.std.specs.List.{ContainsAt as Has, AllByRecursion}
 use Rattle.std.proofs.lemmas.List.{get_or-set_same, get_or-set_other, length-set}
 use Rattle.std.proofs.lemmas.Bool.{cases_eq}
 use Rattle.kinds.specs.Kind.{Kind, Sound, On, Whether, code_of, wide}
@@ -23,7 +23,7 @@ use Rattle.take.specs.Shrinking.{freed, front_of, linked, left_entry, Leaves, Sh
 use Rattle.take.specs.Taking.{TakeChanged}
 
 -- each of some pages stands in a list, so a page that does not stand there is none of them
-none_there : (i : ℕ) (xs ys : List ℕ) → All (λ x. 1 ≤ times x ys) xs → times i ys ≡ 0 → times i xs ≡ 0
+none_there : (i : ℕ) (xs ys : List ℕ) → AllByRecursion (λ x. 1 ≤ times x ys) xs → times i ys ≡ 0 → times i xs ≡ 0
 none_there i [] ys all z = refl
 none_there i (x ∷ xs) ys all z =
     let rest = none_there i xs ys all.1 z in
@@ -47,7 +47,7 @@ module _ {P : Type 0} (k : Kind P) (mid : Card) (first : ℕ) where
   linked_kept (q ∷ qs) i z = get_or-set_other (linked k mid qs first) q i (encode k (free_view (front_of qs first))) [] (times_off i q qs z) ∙ linked_kept qs i (omega arith)
 
   -- the pages that are free now stand before the chain
-  linked_chain : (qs rest : List ℕ) → front rest ≡ first → All (λ q. q < length mid) qs → ((i : ℕ) → times i (qs ++ rest) ≤ 1) → Chained k mid rest → Chained k (linked k mid qs first) (qs ++ rest)
+  linked_chain : (qs rest : List ℕ) → front rest ≡ first → AllByRecursion (λ q. q < length mid) qs → ((i : ℕ) → times i (qs ++ rest) ≤ 1) → Chained k mid rest → Chained k (linked k mid qs first) (qs ++ rest)
   linked_chain [] rest e within once chained = chained
   linked_chain (q ∷ qs) rest e within once chained =
       let before = linked k mid qs first in
@@ -92,7 +92,7 @@ module _ {P : Type 0} (k : Kind P) (s : Sound k) (card : Card) (ps : List P) (w 
       some_page (data_at q xs) = omega arith
       some_page (directory_at q n l h) = omega arith
 
-  module _ (on : On k p) (t : Laid P) (root_is : w.root ≡ Some t) (taken : Taken P) (mid : Card) (sub : Shrunk k card ps p t taken mid) (within : All (λ q. q < length card) (freed taken))
+  module _ (on : On k p) (t : Laid P) (root_is : w.root ≡ Some t) (taken : Taken P) (mid : Card) (sub : Shrunk k card ps p t taken mid) (within : AllByRecursion (λ q. q < length card) (freed taken))
       (first count : ℕ) (first_is : front w.chain ≡ first) (count_is : length w.chain ≡ count) where
     -- each page stands once in the tree or in the chain, and page 0 in neither
     once_all : (i : ℕ) → times i (numbers t) + times i w.chain ≡ cond (leb 1 i && ltb i (length card)) 1 0
@@ -108,13 +108,13 @@ module _ {P : Type 0} (k : Kind P) (s : Sound k) (card : Card) (ps : List P) (w 
     stands = root_standing k s card ps w t root_is
 
     -- a page that is free now is on the way of the point or beside its last page
-    on_way : All (λ q. 1 ≤ times q (way (code_of k) (wide k) t p ++ beside (code_of k) (wide k) t p)) (freed taken)
+    on_way : AllByRecursion (λ q. 1 ≤ times q (way (code_of k) (wide k) t p ++ beside (code_of k) (wide k) t p)) (freed taken)
     on_way =
         let v = way (code_of k) (wide k) t p in
         let z = beside (code_of k) (wide k) t p in
         (shrinks_parts k s.room p (λ q. 1 ≤ times q (v ++ z)) (λ x. Unit {0}) ps [] sub.shrinks stands.halved stands.is_set.rising sub.was_live (there_left v z) (there_right v z) (nothing (parts k t))).1
       where
-        nothing : (xs : List Part) → All (λ x. Unit {0}) xs
+        nothing : (xs : List Part) → AllByRecursion (λ x. Unit {0}) xs
         nothing [] = tt
         nothing (x ∷ xs) = (tt, nothing xs)
 
@@ -183,7 +183,7 @@ module _ {P : Type 0} (k : Kind P) (s : Sound k) (card : Card) (ps : List P) (w 
               is_tree = left_tree sub.left (shrinks_halved (code_of k) (wide k) k.capacity s.room p ps sub.shrinks stands.halved stands.is_set.rising sub.was_live);
               shows = left_shows sub.left sub.shows (λ i. omega arith);
               chained = chained_kept k (linked k mid fs first) after (fs ++ w.chain) (λ i one. after_other i (not_head i (let a = times_append i fs w.chain in omega arith)))
-                  (linked_chain k mid first fs w.chain first_is (subst (λ n. All (λ q. q < n) fs) (sym same) within) (λ i. let a = at_most i in let b = times_append i fs w.chain in omega arith) chain_mid);
+                  (linked_chain k mid first fs w.chain first_is (subst (λ n. AllByRecursion (λ q. q < n) fs) (sym same) within) (λ i. let a = at_most i in let b = times_append i fs w.chain in omega arith) chain_mid);
               each_once = λ i.
                   let a = times_append i (root_numbers sub.left) (fs ++ w.chain) in
                   let b = times_append i fs w.chain in

@@ -1,7 +1,7 @@
 -- How a take from a part of the tree ends.
 use Rattle.std.specs.Prelude.{◌≡◌, ℕ, ◌<◌, ◌≤◌, true, false, ◌⊎◌, List, [], ◌∷◌, length, Some, None, Ok, Err, Option, Result, slice_set}
 use Rattle.std.specs.Int.{int_min, int_max}
-use Rattle.std.specs.List.{AllByRecursion as All}
+use Rattle.std.specs.List.{AllByRecursion}
 use Rattle.refusal.specs.declared.Refusal.{Refusal}
 use Rattle.refusal.specs.Numbers.{number}
 use Rattle.zorder.specs.Code.{bit_at}
@@ -86,5 +86,5 @@ module _ {P : Type 0} (k : Kind P) where
 
 -- On any card: a refusal is 9 or 5 and keeps all pages; else the number of pages is kept, and what is free now are pages of the card.
 abbrev pub AnyEnd : {P : Type 0} → Card → Result (Taken P) Refusal → Card → Type 0
-AnyEnd before (Ok taken) after = (length after ≡ length before) × All (λ q. q < length before) (freed taken)
+AnyEnd before (Ok taken) after = (length after ≡ length before) × AllByRecursion (λ q. q < length before) (freed taken)
 AnyEnd before (Err e) after = (after ≡ before) × ((number e ≡ 9) ⊎ (number e ≡ 5))

@@ -1,6 +1,6 @@
 // The pages that a take makes free.
 ghost use Rattle.std.specs.Prelude.{◌≡◌, ◌+◌, ◌<◌, length};
-ghost use Rattle.std.specs.List.{AllByRecursion as All};
+ghost use Rattle.std.specs.List.{AllByRecursion};
 ghost use Rattle.page.specs.Checks.{root_summary};
 ghost use Rattle.take.specs.Shrinking.{freed, front_of, linked, left_entry};
 
@@ -18,7 +18,7 @@ pub(crate) fn release<K: PointKind, S: PageStore>(
     first: u16,
     free: u16,
 ) -> Head<K>
-    requires there { All (λ q. q < length (S.PageStore.pages store.old)) (freed taken.now) }
+    requires there { AllByRecursion (λ q. q < length (S.PageStore.pages store.old)) (freed taken.now) }
     requires room { free + 2 < 65536 }
     ensures first { result.first ≡ front_of (freed taken.now) first }
     ensures free { result.free ≡ length (freed taken.now) + free }

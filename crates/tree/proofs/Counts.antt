@@ -1,6 +1,6 @@
 -- Each page once: counts of page numbers.
 use Rattle.std.proofs.Common.{◌≡◌, ℕ, zero, suc, ◌+◌, ◌<◌, ◌≤◌, cond, ◌&&◌, eqb, ltb, leb, ◌≢◌, List, [], ◌∷◌, ◌++◌, length, sym, refl, ap, ◌∙◌, ⊎_elim, arith}
-use Rattle.std.specs.List.{AllByRecursion as All}
+use Rattle.std.specs.List.{AllByRecursion}
 use Rattle.std.proofs.lemmas.Bool.{cases_eq, cases_lt, and_right, and_from, le-ltb, le-leb, lt-ltb, eq-eqb, ne_eqb, cond-true, cond-false, cond_both}
 use Rattle.page.specs.Form.{times}
 
@@ -24,7 +24,7 @@ pub times_append : (q : ℕ) (xs ys : List ℕ) → times q (xs ++ ys) ≡ times
 times_append q [] ys = omega arith
 times_append q (x ∷ xs) ys = let h = times_append q xs ys in omega arith
 
-pub not_there : (q : ℕ) (xs : List ℕ) → times q xs ≡ 0 → All (λ r. q ≡ r → ⊥) xs
+pub not_there : (q : ℕ) (xs : List ℕ) → times q xs ≡ 0 → AllByRecursion (λ r. q ≡ r → ⊥) xs
 not_there q [] e = tt
 not_there q (x ∷ xs) e = (
   (λ same. let c : ◌≡◌ {A = ℕ} (cond (eqb q x) 1 0) 1 = cond-true _ _ _ (eq-eqb _ _ same) in omega arith),
@@ -67,12 +67,12 @@ total_more (suc n) x xs lt =
     below : {n x : ℕ} → (n ≡ x → ⊥) → x < suc n → x < n
     below {n} {x} ne lt = ⊎_elim (λ h. h) (λ h. absurd (ne (omega arith))) (cases_lt x n)
 
-total_length : (n : ℕ) (xs : List ℕ) → All (λ x. x < n) xs → total n xs ≡ length xs
+total_length : (n : ℕ) (xs : List ℕ) → AllByRecursion (λ x. x < n) xs → total n xs ≡ length xs
 total_length n [] all = total_nil n
 total_length n (x ∷ xs) all = total_more n x xs all.0 ∙ ap suc (total_length n xs all.1)
 
 module _ (N : ℕ) (xs : List ℕ) (once : (q : ℕ) → times q xs ≡ cond (leb 1 q && ltb q N) 1 0) where
-  pub inside : (ys : List ℕ) → ((q : ℕ) → times q ys ≤ times q xs) → All (λ x. x < N) ys
+  pub inside : (ys : List ℕ) → ((q : ℕ) → times q ys ≤ times q xs) → AllByRecursion (λ x. x < N) ys
   inside [] le = tt
   inside (y ∷ ys) le = (
     ⊎_elim (λ h. h)

@@ -1,6 +1,6 @@
 -- The worked example, by computation.
 use Rattle.std.proofs.Common.{◌≡◌, ℕ, zero, suc, ◌+◌, ◌<◌, ◌≤◌, Bool, true, false, cond, ◌&&◌, ltb, leb, List, [], ◌∷◌, map, Some, sym, refl, subst, arith, lit≤}
-use Rattle.std.specs.List.{range_with_len, AllByRecursion as All}
+use Rattle.std.specs.List.{range_with_len, AllByRecursion}
 use Rattle.std.proofs.lemmas.Int.{ints}
 use Rattle.std.proofs.ByRecursion.{All-weaker, All-map}
 use Rattle.std.proofs.lemmas.Bool.{ltb-true}
@@ -21,7 +21,7 @@ ascends (x ∷ []) = true
 ascends (x ∷ (y ∷ ys)) = ltb x y && ascends (y ∷ ys)
 
 module _ {X : Type 0} (code : X → ℕ) where
-  above_all : (x : X) (xs : List X) → Rising code xs → (y : ℕ) → y < code x → All (λ z. code x < code z) xs → All (λ z. y < code z) (x ∷ xs)
+  above_all : (x : X) (xs : List X) → Rising code xs → (y : ℕ) → y < code x → AllByRecursion (λ z. code x < code z) xs → AllByRecursion (λ z. y < code z) (x ∷ xs)
   above_all x xs r y lt all = (lt, All-weaker _ _ (λ z h. omega arith) xs all)
 
   pub rises : (xs : List X) → ascends (map code xs) ≡ true → Rising code xs
@@ -41,11 +41,11 @@ module _ {X : Type 0} (code : X → ℕ) where
       second false true e = refl
       second false false e = e
 
-below_all : (a n m : ℕ) → a + n ≤ m → All (λ c. c < m) (range_with_len a n)
+below_all : (a n m : ℕ) → a + n ≤ m → AllByRecursion (λ c. c < m) (range_with_len a n)
 below_all a zero m h = tt
 below_all a (suc n) m h = (omega arith, below_all (a + 1) n m (omega arith))
 
-on_row : (a n : ℕ) → a + n ≤ 65536 → All (On lay_kind) (row a n)
+on_row : (a n : ℕ) → a + n ≤ 65536 → AllByRecursion (On lay_kind) (row a n)
 on_row a n h = All-map (On lay_kind) _ (range_with_len a n) (All-weaker _ _ (λ c lt. ((omega (arith, ints), omega (arith, ints)), ((omega (arith, ints), omega (arith, ints)), tt))) (range_with_len a n) (below_all a n 65536 h))
 
 sixteen : IsSet lay_kind (row 0 16)

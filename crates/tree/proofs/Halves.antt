@@ -1,7 +1,7 @@
 -- Halves of sets, and sets with and without a point.
 use Rattle.std.proofs.Common.{◌≡◌, ℕ, suc, ◌+◌, ◌-◌, ◌/◌, ◌^◌, ◌<◌, ◌≤◌, Bool, true, false, cond, eqb, ltb, ◌⊎◌, List, [], ◌∷◌, ◌++◌, map, length, filter, sym, refl, ap, ◌∙◌, subst, inl, inr, ⊎_elim, mod-lt, div-one, arith, lit<, length-append}
 use lib.Arith.{lt_of_le-ne}
-use Rattle.std.specs.List.{AllByRecursion as All}
+use Rattle.std.specs.List.{AllByRecursion}
 use Rattle.std.proofs.lemmas.Bool.{cases_eq, cases_lt, cases_Bool, both_ways, eq-eqb, ne_eqb, eqb-true, eqb-false, ltb-true, ltb-false, lt-ltb, le-ltb, cond-true, cond-false, cond_both, not_from_true, not_from_false}
 use Rattle.std.proofs.ByRecursion.{all_kept_by, kept_by_passes, All-weaker, All-map}
 use Rattle.zorder.specs.Code.{first, bit_at}
@@ -10,15 +10,15 @@ use Rattle.zorder.proofs.Halving.{halves_join}
 use Rattle.tree.specs.Sets.{live, with_point, without_point}
 use Rattle.tree.specs.Tree.{Depth}
 
-pub all_unmap : {X Y : Type 0} (A : Y → Type 0) (f : X → Y) (xs : List X) → All A (map f xs) → All (λ x. A (f x)) xs
+pub all_unmap : {X Y : Type 0} (A : Y → Type 0) (f : X → Y) (xs : List X) → AllByRecursion A (map f xs) → AllByRecursion (λ x. A (f x)) xs
 all_unmap A f [] h = tt
 all_unmap A f (x ∷ xs) h = (h.0, all_unmap A f xs h.1)
 
-pub kept_all : {X : Type 0} (t : X → Bool) (qs : List X) → All (λ q. t q ≡ true) qs → filter t qs ≡ qs
+pub kept_all : {X : Type 0} (t : X → Bool) (qs : List X) → AllByRecursion (λ q. t q ≡ true) qs → filter t qs ≡ qs
 kept_all t [] all = refl
 kept_all t (q ∷ qs) all = cond-true _ _ _ all.0 ∙ ap (λ l. q ∷ l) (kept_all t qs all.1)
 
-pub kept_none : {X : Type 0} (t : X → Bool) (qs : List X) → All (λ q. t q ≡ false) qs → filter t qs ≡ []
+pub kept_none : {X : Type 0} (t : X → Bool) (qs : List X) → AllByRecursion (λ q. t q ≡ false) qs → filter t qs ≡ []
 kept_none t [] all = refl
 kept_none t (q ∷ qs) all = cond-false _ _ _ all.0 ∙ kept_none t qs all.1
 
@@ -56,7 +56,7 @@ module _ {P : Type 0} (code : P → ℕ) where
 
   -- ---- a set with a point
   abbrev pub Absent : P → List P → Type 0
-  Absent p ps = All (λ q. code p ≡ code q → ⊥) ps
+  Absent p ps = AllByRecursion (λ q. code p ≡ code q → ⊥) ps
 
   pub absent_from : (p : P) (ps : List P) → live code p ps ≡ false → Absent p ps
   absent_from p [] e = tt
@@ -72,21 +72,21 @@ module _ {P : Type 0} (code : P → ℕ) where
   pub with_above : (p q : P) (qs : List P) → code q ≤ code p → with_point code p (q ∷ qs) ≡ q ∷ with_point code p qs
   with_above p q qs le = cond-false _ _ _ (le-ltb _ _ le)
 
-  with_front : (p : P) (qs : List P) → All (λ q. code p < code q) qs → with_point code p qs ≡ p ∷ qs
+  with_front : (p : P) (qs : List P) → AllByRecursion (λ q. code p < code q) qs → with_point code p qs ≡ p ∷ qs
   with_front p [] all = refl
   with_front p (q ∷ qs) all = with_below p q qs all.0
 
-  pub all_with : (A : P → Type 0) (p : P) (qs : List P) → A p → All A qs → All A (with_point code p qs)
+  pub all_with : (A : P → Type 0) (p : P) (qs : List P) → A p → AllByRecursion A qs → AllByRecursion A (with_point code p qs)
   all_with A p [] a all = (a, tt)
-  all_with A p (q ∷ qs) a all = cond_both (ltb (code p) (code q)) _ _ (All A) (λ _. (a, all)) (λ _. (all.0, all_with A p qs a all.1))
+  all_with A p (q ∷ qs) a all = cond_both (ltb (code p) (code q)) _ _ (AllByRecursion A) (λ _. (a, all)) (λ _. (all.0, all_with A p qs a all.1))
 
   -- what holds of the set with p holds of p and of the set
-  pub all_with_out : (A : P → Type 0) (p : P) (qs : List P) → All A (with_point code p qs) → A p × All A qs
+  pub all_with_out : (A : P → Type 0) (p : P) (qs : List P) → AllByRecursion A (with_point code p qs) → A p × AllByRecursion A qs
   all_with_out A p [] all = all
   all_with_out A p (q ∷ qs) all =
       ⊎_elim
-      (λ e. let r = subst (All A) (cond-true _ _ _ e) all in r)
-      (λ e. let r = subst (All A) (cond-false (ltb (code p) (code q)) (p ∷ q ∷ qs) (q ∷ with_point code p qs) e) all in let s = all_with_out A p qs r.1 in (s.0, (r.0, s.1)))
+      (λ e. let r = subst (AllByRecursion A) (cond-true _ _ _ e) all in r)
+      (λ e. let r = subst (AllByRecursion A) (cond-false (ltb (code p) (code q)) (p ∷ q ∷ qs) (q ∷ with_point code p qs) e) all in let s = all_with_out A p qs r.1 in (s.0, (r.0, s.1)))
       (cases_Bool (ltb (code p) (code q)))
 
   pub length_with : (p : P) (qs : List P) → length (with_point code p qs) ≡ suc (length qs)
@@ -105,7 +105,7 @@ module _ {P : Type 0} (code : P → ℕ) where
   kept_with t p (q ∷ qs) pass up =
       ⊎_elim
       (λ lt.
-      let after : All (λ r. code p < code r) (q ∷ qs) = (lt, All-weaker _ _ (λ r a. omega arith) qs up.0) in
+      let after : AllByRecursion (λ r. code p < code r) (q ∷ qs) = (lt, All-weaker _ _ (λ r a. omega arith) qs up.0) in
       ap (filter t) (with_below p q qs lt) ∙ cond-true (t p) _ _ pass ∙ sym (with_front p (filter t (q ∷ qs)) (all_kept_by t _ (q ∷ qs) after)))
       (λ le.
       let rest = kept_with t p qs pass up.1 in
@@ -149,19 +149,19 @@ module _ {P : Type 0} (code : P → ℕ) where
 
 module _ {P : Type 0} (code : P → ℕ) (w : ℕ) where
   -- ---- halves
-  pub half_all : (A : P → Type 0) (n c : ℕ) (ps : List P) → All A ps → All A (half code w n c ps)
+  pub half_all : (A : P → Type 0) (n c : ℕ) (ps : List P) → AllByRecursion A ps → AllByRecursion A (half code w n c ps)
   half_all A n c ps all = all_kept_by (λ p. eqb (bit_at w n (code p)) c) A ps all
 
   pub half_rising : (n c : ℕ) (ps : List P) → Rising code ps → Rising code (half code w n c ps)
   half_rising n c ps up = rising_kept code (λ p. eqb (bit_at w n (code p)) c) ps up
 
-  pub half_none : (n c : ℕ) (ps : List P) → All (λ q. bit_at w n (code q) ≡ c → ⊥) ps → half code w n c ps ≡ []
+  pub half_none : (n c : ℕ) (ps : List P) → AllByRecursion (λ q. bit_at w n (code q) ≡ c → ⊥) ps → half code w n c ps ≡ []
   half_none n c ps all = kept_none _ ps (All-weaker _ _ (λ q ne. ne_eqb _ _ ne) ps all)
 
-  pub half_whole : (n c : ℕ) (ps : List P) → All (λ q. bit_at w n (code q) ≡ c) ps → half code w n c ps ≡ ps
+  pub half_whole : (n c : ℕ) (ps : List P) → AllByRecursion (λ q. bit_at w n (code q) ≡ c) ps → half code w n c ps ≡ ps
   half_whole n c ps all = kept_all _ ps (All-weaker _ _ (λ q e. eq-eqb _ _ e) ps all)
 
-  pub half_cases : (n c : ℕ) (ps : List P) → (1 ≤ length (half code w n c ps)) ⊎ All (λ q. bit_at w n (code q) ≡ c → ⊥) ps
+  pub half_cases : (n c : ℕ) (ps : List P) → (1 ≤ length (half code w n c ps)) ⊎ AllByRecursion (λ q. bit_at w n (code q) ≡ c → ⊥) ps
   half_cases n c [] = inr tt
   half_cases n c (p ∷ ps) =
       ⊎_elim
@@ -203,7 +203,7 @@ module _ {P : Type 0} (code : P → ℕ) (w : ℕ) where
   pub record Parted (n : ℕ) (ps : List P) : Type 0 where
     pub short : n < w
     pub front : ℕ
-    pub share : All (λ q. first w n (code q) ≡ front) ps
+    pub share : AllByRecursion (λ q. first w n (code q) ≡ front) ps
     pub low : 1 ≤ length (half code w n 0 ps)
     pub high : 1 ≤ length (half code w n 1 ps)
 
@@ -217,7 +217,7 @@ module _ {P : Type 0} (code : P → ℕ) (w : ℕ) where
       let m = up.0.0 in
       let z : code p ≡ code q = sym (first_whole w (code p)) ∙ s ∙ first_whole w (code q) in
       omega arith) in
-      let none : (c : ℕ) → ((x : ℕ) → (bit_at w n x ≡ c → ⊥) → bit_at w n x ≡ bit_at w n (code p)) → All (λ x. bit_at w n (code x) ≡ c → ⊥) (q ∷ r) → ⊥ = λ c other all. d.differ short (All-map _ code (q ∷ r) (All-weaker _ _ (λ x ne. sym (other (code x) ne)) (q ∷ r) all)) in
+      let none : (c : ℕ) → ((x : ℕ) → (bit_at w n x ≡ c → ⊥) → bit_at w n x ≡ bit_at w n (code p)) → AllByRecursion (λ x. bit_at w n (code x) ≡ c → ⊥) (q ∷ r) → ⊥ = λ c other all. d.differ short (All-map _ code (q ∷ r) (All-weaker _ _ (λ x ne. sym (other (code x) ne)) (q ∷ r) all)) in
       record {
         short = short;
         front = first w n (code p);

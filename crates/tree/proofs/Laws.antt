@@ -1,7 +1,7 @@
 -- The laws of trees and lawful cards, proved.
 use Rattle.std.proofs.Common.{◌≡◌, ℕ, suc, ◌+◌, ◌-◌, ◌/◌, ◌^◌, ◌<◌, ◌≤◌, Bool, true, false, not, eqb, ◌⊎◌, List, [], ◌∷◌, map, length, Some, None, filter, Option, sym, refl, ap, ◌∙◌, subst, ap₂, inl, inr, ⊎_elim, arith, length-append}
 use native.Mathlib.Nat.{div-eq_of_lt}
-use Rattle.std.specs.List.{ContainsAt as Has, AllByRecursion as All}
+use Rattle.std.specs.List.{ContainsAt as Has, AllByRecursion}
 use Rattle.std.proofs.lemmas.Bool.{cases_Bool, both_ways, eq-eqb, ne_eqb, eqb-true, eqb-false, and_from, and_left, cond-true, cond-false, cond_both, not_from_true, not_from_false}
 use Rattle.std.proofs.ByRecursion.{All-weaker, All-map, all-has, all_has_itself, has_append_left, has_append_right, has_push, all_kept_by, kept_by_passes}
 use Rattle.zorder.specs.Code.{first, bit_at}
@@ -25,7 +25,7 @@ use Rattle.tree.proofs.Trees.{data_more, halved_one, halved_exists, halved_some,
 use Rattle.tree.proofs.Standings.{leaf_inv, node_inv, set_half, parted, few_points, laid_pages, points_are, standing_low, standing_high, standing_reads, root_standing, head_reads, whole}
 
 module _ {P : Type 0} (k : Kind P) (s : Sound k) where
-  pub fits : (ps : List P) → All (On k) ps → All (λ q. code_of k q < 2 ^ wide k) ps
+  pub fits : (ps : List P) → AllByRecursion (On k) ps → AllByRecursion (λ q. code_of k q < 2 ^ wide k) ps
   fits ps on = All-weaker _ _ (λ q o. code_lt k.axes s.narrow (k.coords q) o) ps on
 
 -- ---- one tree
@@ -131,17 +131,17 @@ whole_card_law P k s card set w =
 
 module _ {P : Type 0} (code : P → ℕ) (w : ℕ) where
   -- a point that shares the first bits of all
-  pub agrees_all : (n v : ℕ) (ps : List P) (p : P) → All (λ q. first w n (code q) ≡ v) ps → first w n (code p) ≡ v → agrees code w n ps p ≡ true
+  pub agrees_all : (n v : ℕ) (ps : List P) (p : P) → AllByRecursion (λ q. first w n (code q) ≡ v) ps → first w n (code p) ≡ v → agrees code w n ps p ≡ true
   agrees_all n v [] p all e = refl
   agrees_all n v (q ∷ qs) p all e = and_from _ _ (eq-eqb _ _ (all.0 ∙ sym e)) (agrees_all n v qs p all.1 e)
 
   -- one that does not
-  pub agrees_none : (n v : ℕ) (ps : List P) (p : P) → 1 ≤ length ps → All (λ q. first w n (code q) ≡ v) ps → (first w n (code p) ≡ v → ⊥) → agrees code w n ps p ≡ false
+  pub agrees_none : (n v : ℕ) (ps : List P) (p : P) → 1 ≤ length ps → AllByRecursion (λ q. first w n (code q) ≡ v) ps → (first w n (code p) ≡ v → ⊥) → agrees code w n ps p ≡ false
   agrees_none n v [] p some all ne = absurd (omega arith)
   agrees_none n v (q ∷ qs) p some all ne = and_left _ _ (ne_eqb _ _ (λ e. ne (sym e ∙ all.0)))
 
   -- a live point shares what all share
-  pub live_shares : (n v : ℕ) (ps : List P) (p : P) → All (λ q. first w n (code q) ≡ v) ps → live code p ps ≡ true → first w n (code p) ≡ v
+  pub live_shares : (n v : ℕ) (ps : List P) (p : P) → AllByRecursion (λ q. first w n (code q) ≡ v) ps → live code p ps ≡ true → first w n (code p) ≡ v
   live_shares n v [] p all on = absurd (both_ways false refl on)
   live_shares n v (q ∷ qs) p all on =
       ⊎_elim
@@ -149,7 +149,7 @@ module _ {P : Type 0} (code : P → ℕ) (w : ℕ) where
       (λ e. live_shares n v qs p all.1 (sym (cond-false _ _ _ e) ∙ on))
       (cases_Bool (eqb (code p) (code q)))
 
-  pub live_not : (n v : ℕ) (ps : List P) (p : P) → All (λ q. first w n (code q) ≡ v) ps → agrees code w n ps p ≡ false → live code p ps ≡ false
+  pub live_not : (n v : ℕ) (ps : List P) (p : P) → AllByRecursion (λ q. first w n (code q) ≡ v) ps → agrees code w n ps p ≡ false → live code p ps ≡ false
   live_not n v ps p all off =
       ⊎_elim
       (λ on. absurd (both_ways _ off (agrees_all n v ps p all (live_shares n v ps p all on))))
@@ -172,21 +172,21 @@ way_law P k s set t p i hv = by t set i hv
         (λ no. live_not (code_of k) (wide k) n d.front set p d.share (sym (ap (λ x. agrees (code_of k) (wide k) n x p) all) ∙ no))
 
 module _ {P : Type 0} (code : P → ℕ) (w : ℕ) where
-  same_next : (n v c : ℕ) (q : P) (qs : List P) → n < w → All (λ x. (first w n (code x) ≡ v) × (bit_at w n (code x) ≡ c)) (q ∷ qs) → All (λ x. first w (suc n) (code x) ≡ first w (suc n) (code q)) (q ∷ qs)
+  same_next : (n v c : ℕ) (q : P) (qs : List P) → n < w → AllByRecursion (λ x. (first w n (code x) ≡ v) × (bit_at w n (code x) ≡ c)) (q ∷ qs) → AllByRecursion (λ x. first w (suc n) (code x) ≡ first w (suc n) (code q)) (q ∷ qs)
   same_next n v c q qs lt h = All-weaker _ _ (λ x e. bit_next w n (code x) (code q) lt (e.0 ∙ sym h.0.0) (e.1 ∙ sym h.0.1)) (q ∷ qs) h
 
-  next_front : (n v c : ℕ) (qs : List P) → n < w → All (λ x. (first w n (code x) ≡ v) × (bit_at w n (code x) ≡ c)) qs → (u : ℕ) × All (λ x. first w (suc n) (code x) ≡ u) qs
+  next_front : (n v c : ℕ) (qs : List P) → n < w → AllByRecursion (λ x. (first w n (code x) ≡ v) × (bit_at w n (code x) ≡ c)) qs → (u : ℕ) × AllByRecursion (λ x. first w (suc n) (code x) ≡ u) qs
   next_front n v c [] lt h = (0, tt)
   next_front n v c (q ∷ qs) lt h = (first w (suc n) (code q), same_next n v c q qs lt h)
 
   -- the codes of a half share one bit more
-  pub half_shares : (n c : ℕ) (ps : List P) → Parted code w n ps → (u : ℕ) × All (λ x. first w (suc n) (code x) ≡ u) (half code w n c ps)
+  pub half_shares : (n c : ℕ) (ps : List P) → Parted code w n ps → (u : ℕ) × AllByRecursion (λ x. first w (suc n) (code x) ≡ u) (half code w n c ps)
   half_shares n c ps d =
       next_front n d.front c (half code w n c ps) d.short
       (all_and _ _ (half code w n c ps) (half_all code w _ n c ps d.share) (All-weaker _ _ (λ x e. eqb-true _ _ e) (half code w n c ps) (kept_by_passes (λ x. eqb (bit_at w n (code x)) c) ps)))
 
   -- the depth is at least the number of bits that are known to be shared
-  pub depth_least : (n above v : ℕ) (ps : List P) → Depth code w n ps → above ≤ w → All (λ x. first w above (code x) ≡ v) ps → above ≤ n
+  pub depth_least : (n above v : ℕ) (ps : List P) → Depth code w n ps → above ≤ w → AllByRecursion (λ x. first w above (code x) ≡ v) ps → above ≤ n
   depth_least n above v [] d le h = absurd d
   depth_least n above v (p ∷ ps) d le h = common_most w n above (code p) (map code ps) d le (All-map _ code ps (All-weaker _ _ (λ x e. h.0 ∙ sym e) ps h.1))
 
@@ -197,7 +197,7 @@ no_bits w c lt = let e : w - 0 ≡ w = omega arith in ap (λ i. c / 2 ^ i) e ∙
 pub short_way_law : (P : Type 0) → ShortWayLaw P
 short_way_law P k s set t p i hv = let h = by t set 0 (0, All-weaker _ _ (λ x lt. no_bits (wide k) (code_of k x) lt) set (fits k s set i.on)) i hv (omega arith) in omega arith
   where
-    by : (t : Laid P) (set : List P) (above : ℕ) → (v : ℕ) × All (λ x. first (wide k) above (code_of k x) ≡ v) set → IsSet k set → TreeOf k set (shape t) → above ≤ wide k
+    by : (t : Laid P) (set : List P) (above : ℕ) → (v : ℕ) × AllByRecursion (λ x. first (wide k) above (code_of k x) ≡ v) set → IsSet k set → TreeOf k set (shape t) → above ≤ wide k
         → length (way (code_of k) (wide k) t p) + above ≤ suc (wide k)
     by (data_at q ps) set above h i hv le = omega arith
     by (directory_at q n l r) set above h i hv le =
@@ -219,14 +219,14 @@ has_here y zs = has_append_left (y ∷ []) zs y (has_push [] y)
 has_there : {X : Type 0} (y : X) (zs : List X) (x : X) → Has zs x → Has (y ∷ zs) x
 has_there y zs x h = has_append_right (y ∷ []) zs x h
 
-kept_has : {X : Type 0} (t : X → Bool) (xs : List X) → All (λ x. t x ≡ true → Has (filter t xs) x) xs
+kept_has : {X : Type 0} (t : X → Bool) (xs : List X) → AllByRecursion (λ x. t x ≡ true → Has (filter t xs) x) xs
 kept_has t [] = tt
 kept_has t (y ∷ ys) =
     ⊎_elim
     (λ e. let m : filter t (y ∷ ys) ≡ y ∷ filter t ys = cond-true _ _ _ e in
-    subst (λ l. All (λ x. t x ≡ true → Has l x) (y ∷ ys)) (sym m) ((λ _. has_here y (filter t ys)), All-weaker _ _ (λ x h f. has_there y (filter t ys) x (h f)) ys (kept_has t ys)))
+    subst (λ l. AllByRecursion (λ x. t x ≡ true → Has l x) (y ∷ ys)) (sym m) ((λ _. has_here y (filter t ys)), All-weaker _ _ (λ x h f. has_there y (filter t ys) x (h f)) ys (kept_has t ys)))
     (λ e. let m : filter t (y ∷ ys) ≡ filter t ys = cond-false _ _ _ e in
-    subst (λ l. All (λ x. t x ≡ true → Has l x) (y ∷ ys)) (sym m) ((λ f. absurd (both_ways _ e f)), kept_has t ys))
+    subst (λ l. AllByRecursion (λ x. t x ≡ true → Has l x) (y ∷ ys)) (sym m) ((λ f. absurd (both_ways _ e f)), kept_has t ys))
     (cases_Bool (t y))
 
 pub set_law : (P : Type 0) → SetLaw P
@@ -256,14 +256,14 @@ set_law P k s set p i on = record {
     fails : (q : P) → q ≡ p → not (eqb (code_of k p) (code_of k q)) ≡ false
     fails q e = not_from_true _ (eq-eqb _ _ (ap (code_of k) (sym e)))
 
-    member : (qs : List P) → All (On k) qs → Whether (live (code_of k) p qs) (Has qs p)
+    member : (qs : List P) → AllByRecursion (On k) qs → Whether (live (code_of k) p qs) (Has qs p)
     member qs all =
         ⊎_elim
         (λ on. subst (λ b. Whether b (Has qs p)) (sym on) (found qs all on))
         (λ off. subst (λ b. Whether b (Has qs p)) (sym off) (λ h. all-has (λ q. code_of k p ≡ code_of k q → ⊥) qs p (absent_from (code_of k) p qs off) h refl))
         (cases_Bool (live (code_of k) p qs))
       where
-        found : (qs : List P) → All (On k) qs → live (code_of k) p qs ≡ true → Has qs p
+        found : (qs : List P) → AllByRecursion (On k) qs → live (code_of k) p qs ≡ true → Has qs p
         found [] all on = absurd (both_ways false refl on)
         found (q ∷ qs) all on =
             ⊎_elim

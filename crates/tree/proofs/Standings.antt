@@ -1,6 +1,6 @@
 -- What stands on a lawful card, page by page.
 use Rattle.std.proofs.Common.{◌≡◌, ℕ, suc, ◌+◌, ◌*◌, ◌^◌, ◌<◌, ◌≤◌, ◌≢◌, ◌⊎◌, List, [], ◌∷◌, ◌++◌, map, length, Some, None, Option, sym, refl, ap, ◌∙◌, subst, inl, inr, ⊎_elim, mul-le-mul_right, mul-add, arith, length-append}
-use Rattle.std.specs.List.{AllByRecursion as All}
+use Rattle.std.specs.List.{AllByRecursion}
 use Rattle.std.proofs.lemmas.List.{get_or_past}
 use Rattle.std.proofs.ByRecursion.{All-weaker, All-map}
 use Rattle.zorder.specs.Code.{OnAxes, code, first}
@@ -23,11 +23,11 @@ use Rattle.tree.proofs.Halves.{half_all, half_rising, Parted, depth_parted, part
 use Rattle.tree.proofs.Trees.{halved_some, halved_points}
 use Rattle.tree.proofs.Counts.{inside, pages_count}
 
-pub all_front : {X : Type 0} (A : X → Type 0) (xs ys : List X) → All A (xs ++ ys) → All A xs
+pub all_front : {X : Type 0} (A : X → Type 0) (xs ys : List X) → AllByRecursion A (xs ++ ys) → AllByRecursion A xs
 all_front A [] ys h = tt
 all_front A (x ∷ xs) ys h = (h.0, all_front A xs ys h.1)
 
-pub all_back : {X : Type 0} (A : X → Type 0) (xs ys : List X) → All A (xs ++ ys) → All A ys
+pub all_back : {X : Type 0} (A : X → Type 0) (xs ys : List X) → AllByRecursion A (xs ++ ys) → AllByRecursion A ys
 all_back A [] ys h = h
 all_back A (x ∷ xs) ys h = all_back A xs ys h.1
 
@@ -64,7 +64,7 @@ module _ {P : Type 0} (k : Kind P) where
     parted n ps s m d = let r = laws.room in depth_parted (code_of k) (wide k) n ps (omega arith) s.rising d
 
     -- ---- corners of a set that is not empty
-    pub corners_on : (ps : List P) → 1 ≤ length ps → All (On k) ps → OnAxes k.axes (low_corner k ps) × OnAxes k.axes (high_corner k ps) × Under (low_corner k ps) (high_corner k ps)
+    pub corners_on : (ps : List P) → 1 ≤ length ps → AllByRecursion (On k) ps → OnAxes k.axes (low_corner k ps) × OnAxes k.axes (high_corner k ps) × Under (low_corner k ps) (high_corner k ps)
     corners_on [] s on = absurd (omega arith)
     corners_on (p ∷ ps) s on =
         let A = k.axes in
@@ -73,16 +73,16 @@ module _ {P : Type 0} (k : Kind P) where
         let i = w.1.0 in
         (w.0.0, w.0.1, under_then (low_corner k (p ∷ ps)) (k.coords p) (high_corner k (p ∷ ps)) i.0 i.1)
 
-    pub entry_fields : (t : Laid P) (ps : List P) → below_it t ≡ ps → 1 ≤ length ps → All (On k) ps → EntryFields k (entry k t)
+    pub entry_fields : (t : Laid P) (ps : List P) → below_it t ≡ ps → 1 ≤ length ps → AllByRecursion (On k) ps → EntryFields k (entry k t)
     entry_fields t ps e s on =
-        let c = corners_on (below_it t) (subst (λ x. 1 ≤ length x) (sym e) s) (subst (All (On k)) (sym e) on) in
+        let c = corners_on (below_it t) (subst (λ x. 1 ≤ length x) (sym e) s) (subst (AllByRecursion (On k)) (sym e) on) in
         record { low_on = c.0; high_on = c.1; uncrossed = c.2 }
 
-    first_within : (A : ℕ → Type 0) (t : Laid P) → All A (numbers t) → A (number t)
+    first_within : (A : ℕ → Type 0) (t : Laid P) → AllByRecursion A (numbers t) → A (number t)
     first_within A (data_at q ps) a = a.0
     first_within A (directory_at q n l h) a = a.0
 
-    pub small_entry : (t : Laid P) (ps : List P) → below_it t ≡ ps → length ps < 2 ^ 32 → All (λ q. q < 65536) (numbers t) → Small k (entry k t)
+    pub small_entry : (t : Laid P) (ps : List P) → below_it t ≡ ps → length ps < 2 ^ 32 → AllByRecursion (λ q. q < 65536) (numbers t) → Small k (entry k t)
     small_entry t ps e few w = record { page_fits = first_within (λ q. q < 65536) t w; count_fits = subst (λ x. length x < 2 ^ 32) (sym e) few }
 
     module _ (card : Card) where
@@ -127,7 +127,7 @@ module _ {P : Type 0} (k : Kind P) where
       pub standing_fields : (ps : List P) (t : Laid P) → Standing k card ps t → Fields k (view_of k t)
       standing_fields ps (data_at q qs) s =
           let i = leaf_inv s.halved in
-          let on = subst (All (On k)) i.0 s.is_set.on in
+          let on = subst (AllByRecursion (On k)) i.0 s.is_set.on in
           let l = length_coords k qs in
           let a = i.1 in let b = i.2 in
           record { some = omega arith; fit = omega arith; on_axes = All-map (OnAxes k.axes) k.coords qs on }
@@ -155,7 +155,7 @@ module _ {P : Type 0} (k : Kind P) where
       standing_there ps t s = shown_there (number t) (view_of k t) (face_of card t s.shows)
 
     -- the low corner of points that share their first bits shares them too
-    pub corner_front : (n v : ℕ) (ps : List P) → n ≤ wide k → 1 ≤ length ps → All (On k) ps → All (λ q. first (wide k) n (code_of k q) ≡ v) ps → first (wide k) n (code k.axes (low_corner k ps)) ≡ v
+    pub corner_front : (n v : ℕ) (ps : List P) → n ≤ wide k → 1 ≤ length ps → AllByRecursion (On k) ps → AllByRecursion (λ q. first (wide k) n (code_of k q) ≡ v) ps → first (wide k) n (code k.axes (low_corner k ps)) ≡ v
     corner_front n v [] le some on h = absurd (omega arith)
     corner_front n v (p ∷ ps) le some on h =
         let A = k.axes in
@@ -177,7 +177,7 @@ module _ {P : Type 0} (k : Kind P) where
 
     -- ---- a lawful card
     module _ (card : Card) (set : List P) (w : Lawful k card set) where
-      pub all_within : All (λ q. q < length card) (root_numbers w.root ++ w.chain)
+      pub all_within : AllByRecursion (λ q. q < length card) (root_numbers w.root ++ w.chain)
       all_within = inside (length card) (root_numbers w.root ++ w.chain) w.each_once (root_numbers w.root ++ w.chain) (λ q. omega arith)
 
       pub whole : suc (length (root_numbers w.root ++ w.chain)) ≡ length card
@@ -207,10 +207,10 @@ module _ {P : Type 0} (k : Kind P) where
             is_set = w.is_set;
             halved = subst (λ r. OptionalTreeOf k set (root_shape r)) e w.is_tree;
             few = root_few;
-            within = All-weaker _ _ (λ q lt. omega arith) (numbers t) (subst (λ r. All (λ q. q < length card) (root_numbers r)) e (all_front _ (root_numbers w.root) w.chain all_within));
+            within = All-weaker _ _ (λ q lt. omega arith) (numbers t) (subst (λ r. AllByRecursion (λ q. q < length card) (root_numbers r)) e (all_front _ (root_numbers w.root) w.chain all_within));
           }
 
-      front_fits : (qs : List ℕ) → All (λ q. q < length card) qs → front qs < 65536
+      front_fits : (qs : List ℕ) → AllByRecursion (λ q. q < length card) qs → front qs < 65536
       front_fits [] h = omega arith
       front_fits (q ∷ qs) h = let a = h.0 in let b = w.size.1 in omega arith
 

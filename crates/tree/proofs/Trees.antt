@@ -2,7 +2,7 @@
 use Rattle.std.proofs.Common.{◌≡◌, ℕ, zero, suc, ◌-◌, ◌^◌, ◌<◌, ◌≤◌, List, [], ◌∷◌, ◌++◌, map, length, sym, refl, ◌∙◌, subst, ap₂, ⊎_elim, arith}
 use lib.Bits.{bit_xor}
 use lib.Count.{count_leading_zeros}
-use Rattle.std.specs.List.{AllByRecursion as All}
+use Rattle.std.specs.List.{AllByRecursion}
 use Rattle.std.proofs.lemmas.Bool.{cases_lt}
 use Rattle.std.proofs.ByRecursion.{All-weaker, All-map}
 use Rattle.zorder.specs.Code.{first, bit_at}
@@ -28,18 +28,18 @@ module _ {P : Type 0} (code : P → ℕ) (w : ℕ) where
   last p [] = p
   last p (q ∷ qs) = last q qs
 
-  last_above : (p : P) (ps : List P) → Rising code (p ∷ ps) → All (λ q. code q ≤ code (last p ps)) (p ∷ ps)
+  last_above : (p : P) (ps : List P) → Rising code (p ∷ ps) → AllByRecursion (λ q. code q ≤ code (last p ps)) (p ∷ ps)
   unfolding last
   last_above p [] up = (omega arith, tt)
   last_above p (q ∷ qs) up = let r = last_above q qs up.1 in let m = r.0 in let n = up.0.0 in (omega arith, r)
 
-  last_in : (A : P → Type 0) (p : P) (ps : List P) → All A (p ∷ ps) → A (last p ps)
+  last_in : (A : P → Type 0) (p : P) (ps : List P) → AllByRecursion A (p ∷ ps) → A (last p ps)
   unfolding last
   last_in A p [] all = all.0
   last_in A p (q ∷ qs) all = last_in A q qs all.1
 
   -- the codes of a set share some number of first bits
-  pub depth_some : (ps : List P) → 2 ≤ length ps → Rising code ps → All (λ q. code q < 2 ^ w) ps → (n : ℕ) × Depth code w n ps
+  pub depth_some : (ps : List P) → 2 ≤ length ps → Rising code ps → AllByRecursion (λ q. code q < 2 ^ w) ps → (n : ℕ) × Depth code w n ps
   unfolding last
   depth_some [] two up fits = absurd (omega arith)
   depth_some (p ∷ []) two up fits = absurd (omega arith)
@@ -47,7 +47,7 @@ module _ {P : Type 0} (code : P → ℕ) (w : ℕ) where
       let z = last q r in
       let s = shares_zeros w (code p) (code z) fits.0 (last_in (λ x. code x < 2 ^ w) p (q ∷ r) fits) in
       let n = count_leading_zeros w (bit_xor (code p) (code z)) in
-      let near : All (λ x. first w n (code p) ≡ first w n (code x)) (q ∷ r) = All-weaker _ _ (λ x h. let a = h.0 in let b = h.1 in sym (between (w - n) (code p) (code x) (code z) (omega arith) b s.agree)) (q ∷ r) (all_and _ _ (q ∷ r) up.0 (last_above q r up.1)) in (
+      let near : AllByRecursion (λ x. first w n (code p) ≡ first w n (code x)) (q ∷ r) = All-weaker _ _ (λ x h. let a = h.0 in let b = h.1 in sym (between (w - n) (code p) (code x) (code z) (omega arith) b s.agree)) (q ∷ r) (all_and _ _ (q ∷ r) up.0 (last_above q r up.1)) in (
         n,
         record {
           within = s.within;
@@ -74,7 +74,7 @@ module _ {P : Type 0} (code : P → ℕ) (w b : ℕ) where
 
   module _ (room : 1 ≤ b) where
     -- ---- at least one tree
-    exists : (turns : ℕ) (ps : List P) → length ps ≤ turns → 1 ≤ length ps → Rising code ps → All (λ q. code q < 2 ^ w) ps → (t : Tree P) × Halved code w b ps t
+    exists : (turns : ℕ) (ps : List P) → length ps ≤ turns → 1 ≤ length ps → Rising code ps → AllByRecursion (λ q. code q < 2 ^ w) ps → (t : Tree P) × Halved code w b ps t
     exists zero ps le some up fits = absurd (omega arith)
     exists (suc turns) ps le some up fits =
         ⊎_elim
@@ -90,7 +90,7 @@ module _ {P : Type 0} (code : P → ℕ) (w b : ℕ) where
         (λ small. (leaf ps, one_page some small))
         (cases_lt b (length ps))
 
-    pub halved_exists : (ps : List P) → 1 ≤ length ps → Rising code ps → All (λ q. code q < 2 ^ w) ps → (t : Tree P) × Halved code w b ps t
+    pub halved_exists : (ps : List P) → 1 ≤ length ps → Rising code ps → AllByRecursion (λ q. code q < 2 ^ w) ps → (t : Tree P) × Halved code w b ps t
     halved_exists ps some up fits = exists (length ps) ps (omega arith) some up fits
 
     -- ---- the points of the tree are the set

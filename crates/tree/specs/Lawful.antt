@@ -1,6 +1,6 @@
 -- Lawful cards.
 use Rattle.std.specs.Prelude.{◌≡◌, ℕ, ◌+◌, ◌-◌, ◌≤◌, cond, ◌&&◌, List, [], ◌∷◌, ◌++◌, map, length, Some, None, Option, nat_le, nat_lt, slice_index_or}
-use Rattle.std.specs.List.{AllByRecursion as All, range_with_len}
+use Rattle.std.specs.List.{AllByRecursion, range_with_len}
 use Rattle.kinds.specs.Kind.{Kind, low_corner, high_corner}
 use Rattle.page.specs.Form.{Summary, free_view, data_view, directory_view, head_view, encode, times}
 use Rattle.tree.specs.Sets.{IsSet}
@@ -46,7 +46,7 @@ module _ {P : Type 0} (k : Kind P) where
 
   -- The card shows the parts: each of their pages has exactly the bytes of its part.
   abbrev pub Holds : Card → List Part → Type 0
-  Holds card xs = All (λ x. page card x.at ≡ x.holds) xs
+  Holds card xs = AllByRecursion (λ x. page card x.at ≡ x.holds) xs
 
   -- the card shows a laid tree
   abbrev pub Shows : Card → Laid P → Type 0

@@ -1,6 +1,6 @@
 -- A part of a draft's tree as it stands on a card.
 use Rattle.std.specs.Prelude.{◌^◌, ◌<◌, List, map, length}
-use Rattle.std.specs.List.{AllByRecursion as All}
+use Rattle.std.specs.List.{AllByRecursion}
 use Rattle.kinds.specs.Kind.{Kind}
 use Rattle.page.specs.Form.{View, data_view, directory_view}
 use Rattle.tree.specs.Sets.{IsSet}
@@ -20,4 +20,4 @@ module _ {P : Type 0} (k : Kind P) where
     pub is_set : IsSet k ps
     pub halved : TreeOf k ps (shape t)
     pub few : length ps < 2 ^ 32
-    pub within : All (λ q. q < 65536) (numbers t)
+    pub within : AllByRecursion (λ q. q < 65536) (numbers t)

@@ -5,7 +5,7 @@ use lib.Signed.{lt_z}
 use lib.Bits.{bit_xor}
 use lib.Count.{count_leading_zeros, leading_le}
 use Rattle.std.specs.Int.{int_min, int_max}
-use Rattle.std.specs.List.{AllByRecursion as All}
+use Rattle.std.specs.List.{AllByRecursion}
 use Rattle.std.proofs.ByRecursion.{All-weaker, All-map}
 use Rattle.std.proofs.lemmas.Int.{ints, clamps}
 use Rattle.zorder.specs.Code.{Axis, OnAxis, OnAxes, raised, raise, digits, rounds, code, woven, widths, width, first}
@@ -108,14 +108,14 @@ module _ (f : ℤ → ℤ → ℤ) (one_of_lem : (x y : ℤ) → (f x y ≡ x) �
   each_mix no_axes = unmixed
   each_mix (two a x y h k t) = mixed (raised a x) (raised a y) (raised a (f x y)) (picked_raised a x y (f x y) (one_of_lem x y)) (each_mix t)
 
-  pub corner_on : (axs : List Axis) (p : List ℤ) (ps : List (List ℤ)) → All (OnAxes axs) (p ∷ ps) → OnAxes axs (corner f p ps)
+  pub corner_on : (axs : List Axis) (p : List ℤ) (ps : List (List ℤ)) → AllByRecursion (OnAxes axs) (p ∷ ps) → OnAxes axs (corner f p ps)
   corner_on axs p [] h = h.0
   corner_on axs p (q ∷ qs) h = corner_on axs (on_each f p q) qs (each_on (both axs p q h.0 h.1.0), h.1.1)
 
   -- where a relation holds from f's point to both, it holds from the corner to all
   corner_all : (axs : List Axis) (R : List ℤ → List ℤ → Type 0) → ((p : List ℤ) → R p p) → ((p q r : List ℤ) → R p q → R q r → R p r)
       → ((p q : List ℤ) → Two axs p q → R (on_each f p q) p × R (on_each f p q) q)
-      → (p : List ℤ) (ps : List (List ℤ)) → All (OnAxes axs) (p ∷ ps) → All (R (corner f p ps)) (p ∷ ps)
+      → (p : List ℤ) (ps : List (List ℤ)) → AllByRecursion (OnAxes axs) (p ∷ ps) → AllByRecursion (R (corner f p ps)) (p ∷ ps)
   corner_all axs R same then step p [] h = (same p, tt)
   corner_all axs R same then step p (q ∷ qs) h =
       let t = both axs p q h.0 h.1.0 in
@@ -137,17 +137,17 @@ first_on : {axs : List Axis} {p q : List ℤ} → Two axs p q → OnAxes axs p �
 first_on no_axes = (tt, tt)
 first_on (two a x y h k t) = let r = first_on t in ((h, r.0), (k, r.1))
 
-pub low_le : (axs : List Axis) (p : List ℤ) (ps : List (List ℤ)) → All (OnAxes axs) (p ∷ ps) → All (λ r. code axs (least_corner p ps) ≤ code axs r) (p ∷ ps)
+pub low_le : (axs : List Axis) (p : List ℤ) (ps : List (List ℤ)) → AllByRecursion (OnAxes axs) (p ∷ ps) → AllByRecursion (λ r. code axs (least_corner p ps) ≤ code axs r) (p ∷ ps)
 low_le axs = corner_all int_min min_one axs (λ p q. code axs p ≤ code axs q) (λ p. omega arith) (λ p q r g h. omega arith)
     (λ p q t. let o = first_on t in let u = lower_under t in let on = each_on int_min min_one t in
     (order_law axs (on_each int_min p q) p on o.0 u.0, order_law axs (on_each int_min p q) q on o.1 u.1))
 
-pub high_ge : (axs : List Axis) (p : List ℤ) (ps : List (List ℤ)) → All (OnAxes axs) (p ∷ ps) → All (λ r. code axs r ≤ code axs (greatest_corner p ps)) (p ∷ ps)
+pub high_ge : (axs : List Axis) (p : List ℤ) (ps : List (List ℤ)) → AllByRecursion (OnAxes axs) (p ∷ ps) → AllByRecursion (λ r. code axs r ≤ code axs (greatest_corner p ps)) (p ∷ ps)
 high_ge axs = corner_all int_max max_one axs (λ p q. code axs q ≤ code axs p) (λ p. omega arith) (λ p q r g h. omega arith)
     (λ p q t. let o = first_on t in let u = upper_over t in let on = each_on int_max max_one t in
     (order_law axs p (on_each int_max p q) o.0 on u.0, order_law axs q (on_each int_max p q) o.1 on u.1))
 
-pub all_and : {X : Type 0} (P Q : X → Type 0) (xs : List X) → All P xs → All Q xs → All (λ x. P x × Q x) xs
+pub all_and : {X : Type 0} (P Q : X → Type 0) (xs : List X) → AllByRecursion P xs → AllByRecursion Q xs → AllByRecursion (λ x. P x × Q x) xs
 all_and P Q [] h k = tt
 all_and P Q (x ∷ xs) h k = ((h.0, k.0), all_and P Q xs h.1 k.1)
 
@@ -166,10 +166,10 @@ mix_agrees axs m p q r hp hq hr w n le e =
     subst (λ k. first k n (code axs p) ≡ first k n (code axs r)) lp (digits_agree (bits_of axs p r hp hr) n fits (sym s))
 
 abbrev AgreeAll : List Axis → ℕ → List ℤ → List (List ℤ) → Type 0
-AgreeAll axs n p ps = All (λ r. first (width axs) n (code axs p) ≡ first (width axs) n (code axs r)) ps
+AgreeAll axs n p ps = AllByRecursion (λ r. first (width axs) n (code axs p) ≡ first (width axs) n (code axs r)) ps
 
 module _ (f : ℤ → ℤ → ℤ) (one_of_lem : (x y : ℤ) → (f x y ≡ x) ⊎ (f x y ≡ y)) where
-  pub corner_agrees : (axs : List Axis) → Narrow axs → (p : List ℤ) (ps : List (List ℤ)) → All (OnAxes axs) (p ∷ ps) → (n : ℕ) → n ≤ width axs → AgreeAll axs n p ps
+  pub corner_agrees : (axs : List Axis) → Narrow axs → (p : List ℤ) (ps : List (List ℤ)) → AllByRecursion (OnAxes axs) (p ∷ ps) → (n : ℕ) → n ≤ width axs → AgreeAll axs n p ps
       → first (width axs) n (code axs p) ≡ first (width axs) n (code axs (corner f p ps))
   corner_agrees axs m p [] h n le e = refl
   corner_agrees axs m p (q ∷ qs) h n le e =
@@ -180,7 +180,7 @@ module _ (f : ℤ → ℤ → ℤ) (one_of_lem : (x y : ℤ) → (f x y ≡ x) �
 
 -- ---- the corner law
 
-pub all_unmap : {X Y : Type 0} (P : Y → Type 0) (f : X → Y) (xs : List X) → All P (map f xs) → All (λ x. P (f x)) xs
+pub all_unmap : {X Y : Type 0} (P : Y → Type 0) (f : X → Y) (xs : List X) → AllByRecursion P (map f xs) → AllByRecursion (λ x. P (f x)) xs
 all_unmap P f [] h = tt
 all_unmap P f (x ∷ xs) h = (h.0, all_unmap P f xs h.1)
 
@@ -194,7 +194,7 @@ corner_law axs m p ps h =
     let lt_hi : hi < 2 ^ w = code_lt axs m (greatest_corner p ps) (corner_on int_max max_one axs p ps h) in
     let le : n ≤ w = leading_le w (bit_xor lo hi) in
     let e : first w n lo ≡ first w n hi = zeros_agree w lo hi n lt_lo lt_hi (omega arith) in
-    let all : All (λ r. first w n (code axs r) ≡ first w n lo) (p ∷ ps) = All-weaker _ _ (λ r g. between (w - n) lo (code axs r) hi g.0 g.1 e) (p ∷ ps) (bounds_law axs p ps h) in
+    let all : AllByRecursion (λ r. first w n (code axs r) ≡ first w n lo) (p ∷ ps) = All-weaker _ _ (λ r g. between (w - n) lo (code axs r) hi g.0 g.1 e) (p ∷ ps) (bounds_law axs p ps h) in
     let agrees : AgreeAll axs n p ps = All-weaker _ _ (λ r g. all.0 ∙ sym g) ps all.1 in
     record {
       within = le;
@@ -215,10 +215,10 @@ apart_law axs m n p q ps h ne k =
     let s : code axs p / 1 ≡ code axs q / 1 = subst (λ i. code axs p / 2 ^ i ≡ code axs q / 2 ^ i) z g in
     ne (one_point_law axs m p q h.0 h.1.0 (sym (div-one (code axs p)) ∙ s ∙ div-one (code axs q))))
 
-pub low_on : (axs : List Axis) (p : List ℤ) (ps : List (List ℤ)) → All (OnAxes axs) (p ∷ ps) → OnAxes axs (least_corner p ps)
+pub low_on : (axs : List Axis) (p : List ℤ) (ps : List (List ℤ)) → AllByRecursion (OnAxes axs) (p ∷ ps) → OnAxes axs (least_corner p ps)
 low_on = corner_on int_min min_one
 
-pub high_on : (axs : List Axis) (p : List ℤ) (ps : List (List ℤ)) → All (OnAxes axs) (p ∷ ps) → OnAxes axs (greatest_corner p ps)
+pub high_on : (axs : List Axis) (p : List ℤ) (ps : List (List ℤ)) → AllByRecursion (OnAxes axs) (p ∷ ps) → OnAxes axs (greatest_corner p ps)
 high_on = corner_on int_max max_one
 
 -- ---- the window of the corners
@@ -258,11 +258,11 @@ upper_under (m ∷ u) [] q h k = elim h [ ]
 upper_under (m ∷ u) (x ∷ p) [] h k = elim k [ ]
 upper_under (m ∷ u) (x ∷ p) (y ∷ q) h k = (omega (arith, ints, clamps), upper_under u p q h.1 k.1)
 
-low_tight : (l p : List ℤ) (ps : List (List ℤ)) → All (Under l) (p ∷ ps) → Under l (least_corner p ps)
+low_tight : (l p : List ℤ) (ps : List (List ℤ)) → AllByRecursion (Under l) (p ∷ ps) → Under l (least_corner p ps)
 low_tight l p [] h = h.0
 low_tight l p (q ∷ qs) h = low_tight l (on_each int_min p q) qs (under_lower l p q h.0 h.1.0, h.1.1)
 
-high_tight : (u p : List ℤ) (ps : List (List ℤ)) → All (λ r. Under r u) (p ∷ ps) → Under (greatest_corner p ps) u
+high_tight : (u p : List ℤ) (ps : List (List ℤ)) → AllByRecursion (λ r. Under r u) (p ∷ ps) → Under (greatest_corner p ps) u
 high_tight u p [] h = h.0
 high_tight u p (q ∷ qs) h = high_tight u (on_each int_max p q) qs (upper_under u p q h.0 h.1.0, h.1.1)
 

@@ -4,7 +4,7 @@ use native.Mathlib.Decide.{ℕ_discrete}
 use lib.Bits.{bit_xor}
 use lib.Count.{count_leading_zeros}
 use Rattle.std.specs.Int.{int_min, int_max}
-use Rattle.std.specs.List.{AllByRecursion as All}
+use Rattle.std.specs.List.{AllByRecursion}
 use Rattle.std.proofs.ByRecursion.{All-weaker, All-map, all_kept_by, kept_by_passes}
 use Rattle.std.proofs.lemmas.Bool.{eq-eqb, ne_eqb, eqb-true}
 use Rattle.std.proofs.lemmas.Int.{ints, clamps}
@@ -25,7 +25,7 @@ first_fewer w m n c d h k e =
     f c ∙ ap (λ x. x / 2 ^ (m - n)) e ∙ sym (f d)
 
 -- the shared first bits are the most on which all agree
-pub common_most : (w m n c : ℕ) (cs : List ℕ) → Common w m c cs → n ≤ w → All (λ d. first w n c ≡ first w n d) cs → n ≤ m
+pub common_most : (w m n c : ℕ) (cs : List ℕ) → Common w m c cs → n ≤ w → AllByRecursion (λ d. first w n c ≡ first w n d) cs → n ≤ m
 common_most w m n c cs k h a =
     let lt : n < suc m = lt_of_not-le (λ (g : suc m ≤ n). k.differ (omega arith)
     (All-weaker _ _ (λ d e. ap (λ x. x % 2) (first_fewer w n (suc m) c d g h e)) cs a)) in
@@ -88,18 +88,18 @@ bit_of w n c =
 
 module _ {X : Type 0} (code : X → ℕ) (w n v : ℕ) (lt : n < w) where
   -- nothing but bit 1
-  high_only : (xs : List X) → All (λ x. bit_at w n (code x) ≡ 1) xs → (half code w n 0 xs ≡ []) × (half code w n 1 xs ≡ xs)
+  high_only : (xs : List X) → AllByRecursion (λ x. bit_at w n (code x) ≡ 1) xs → (half code w n 0 xs ≡ []) × (half code w n 1 xs ≡ xs)
   high_only [] h = (refl, refl)
   high_only (x ∷ xs) h = let r = high_only xs h.1 in let e = h.0 in (rw e r.0, rw e (ap (λ ys. x ∷ ys) r.1))
 
   -- where codes rise and share n first bits, the set is its low half and then its high half
-  pub halves_join : (xs : List X) → Rising code xs → All (λ x. first w n (code x) ≡ v) xs → half code w n 0 xs ++ half code w n 1 xs ≡ xs
+  pub halves_join : (xs : List X) → Rising code xs → AllByRecursion (λ x. first w n (code x) ≡ v) xs → half code w n 0 xs ++ half code w n 1 xs ≡ xs
   halves_join [] h a = refl
   halves_join (x ∷ xs) h a =
       elim (bit_of w n (code x)) [
         | inl e ↦ rw e (ap (λ ys. x ∷ ys) (halves_join xs h.1 a.1))
         | inr e ↦
-            let ones : All (λ y. bit_at w n (code y) ≡ 1) xs = All-weaker _ _ (λ y g. elim (bit_of w n (code y)) [
+            let ones : AllByRecursion (λ y. bit_at w n (code y) ≡ 1) xs = All-weaker _ _ (λ y g. elim (bit_of w n (code y)) [
               | inl z ↦ let o : code y < code x = bit_order w n (code y) (code x) lt (g.1 ∙ sym a.0) z e in absurd (omega (arith, g.0))
               | inr z ↦ z
             ]) xs (all_and _ _ xs h.0 a.1) in
@@ -109,7 +109,7 @@ module _ {X : Type 0} (code : X → ℕ) (w n v : ℕ) (lt : n < w) where
 
 -- ---- the laws
 
-module _ (axs : List Axis) (narrow : Narrow axs) (p : List ℤ) (ps : List (List ℤ)) (on : All (OnAxes axs) (p ∷ ps)) where
+module _ (axs : List Axis) (narrow : Narrow axs) (p : List ℤ) (ps : List (List ℤ)) (on : AllByRecursion (OnAxes axs) (p ∷ ps)) where
   low_lt : code axs (least_corner p ps) < 2 ^ width axs
   low_lt = code_lt axs narrow (least_corner p ps) (low_on axs p ps on)
 
@@ -136,7 +136,7 @@ parts_law p q ps qs = (corner_append int_min min_assoc p q ps qs, corner_append 
 
 module _ {X : Type 0} (code : X → ℕ) (w n : ℕ) where
   -- where a half has no member, every bit is the other one
-  all_other : (b : ℕ) (xs : List X) → length (half code w n b xs) ≡ 0 → All (λ x. bit_at w n (code x) ≡ b → ⊥) xs
+  all_other : (b : ℕ) (xs : List X) → length (half code w n b xs) ≡ 0 → AllByRecursion (λ x. bit_at w n (code x) ≡ b → ⊥) xs
   all_other b [] e = tt
   all_other b (x ∷ xs) e =
       elim (ℕ_discrete (bit_at w n (code x)) b) [
@@ -145,7 +145,7 @@ module _ {X : Type 0} (code : X → ℕ) (w n : ℕ) where
       ]
 
   -- what holds of all holds of a half, whose bits are known
-  half_all : (b : ℕ) (P : X → Type 0) (xs : List X) → All P xs → All (λ x. P x × (bit_at w n (code x) ≡ b)) (half code w n b xs)
+  half_all : (b : ℕ) (P : X → Type 0) (xs : List X) → AllByRecursion P xs → AllByRecursion (λ x. P x × (bit_at w n (code x) ≡ b)) (half code w n b xs)
   half_all b P xs h =
       all_and P (λ x. bit_at w n (code x) ≡ b) (half code w n b xs) (all_kept_by (λ x. eqb (bit_at w n (code x)) b) P xs h)
       (All-weaker _ _ (λ x e. eqb-true (bit_at w n (code x)) b e) (half code w n b xs) (kept_by_passes (λ x. eqb (bit_at w n (code x)) b) xs))
@@ -161,7 +161,7 @@ halves_law axs n p ps lt k =
     let full : (b : ℕ) → b < 2 → 0 < length (half f w n b (p ∷ ps)) = λ b l. lt_of_not-le (λ (z : length (half f w n b (p ∷ ps)) ≤ 0).
     let o = all_other f w n b (p ∷ ps) (omega arith) in
     k.differ lt (All-map _ f ps (All-weaker _ _ (λ q i. other_bits b (bit_at w n (f p)) (bit_at w n (f q)) (bit p) (bit q) l o.0 i) ps o.1))) in
-    let agree : All (λ q. first w n (f p) ≡ first w n (f q)) (p ∷ ps) = (refl, all_unmap _ f ps k.agree) in
+    let agree : AllByRecursion (λ q. first w n (f p) ≡ first w n (f q)) (p ∷ ps) = (refl, all_unmap _ f ps k.agree) in
     let lows = half_all f w n 0 _ (p ∷ ps) agree in
     let highs = half_all f w n 1 _ (p ∷ ps) agree in (
       full 0 (lit< tt),

@@ -3,7 +3,7 @@ use Rattle.std.proofs.Common.{◌≡◌, ℕ, zero, suc, pred, ◌+◌, ◌*◌,
 use native.Mathlib.Nat.{mod-one}
 use lib.Arith.{digits_mod, digits_div}
 use lib.Pow.{mod-pow-add}
-use Rattle.std.specs.List.{AllByRecursion as All}
+use Rattle.std.specs.List.{AllByRecursion}
 use Rattle.std.proofs.ByRecursion.{All-take, All-drop}
 use Rattle.std.proofs.lemmas.List.{nil_from_length, length-drop, length-take-le, take-append-drop}
 use Rattle.std.proofs.lemmas.Int.{ints}
@@ -26,7 +26,7 @@ bits_length : (n c : ℕ) → length (bits n c) ≡ n
 bits_length zero c = refl
 bits_length (suc n) c = ap suc (bits_length n c)
 
-bits_bits : (n c : ℕ) → All (λ b. b < 2) (bits n c)
+bits_bits : (n c : ℕ) → AllByRecursion (λ b. b < 2) (bits n c)
 bits_bits zero c = tt
 bits_bits (suc n) c = (mod-lt (c / 2 ^ n) (lit< tt), bits_bits n c)
 
@@ -71,7 +71,7 @@ top_lt (suc zero) u q h k = omega arith
 top_lt (suc (suc x)) u q h k = absurd (omega arith)
 
 -- one more bit on top of each value that has room for it
-lift : (ks xs : List ℕ) {us : List ℕ} → Fit (map pred ks) us → All (λ b. b < 2) xs → length xs ≡ front ks
+lift : (ks xs : List ℕ) {us : List ℕ} → Fit (map pred ks) us → AllByRecursion (λ b. b < 2) xs → length xs ≡ front ks
     → (vs : List ℕ) × Fit ks vs × (turns ks vs ≡ xs) × Each Same (map pred ks) vs us
 lift [] xs fit_none b e = ([], fit_none, sym (nil_from_length xs e), done)
 lift (zero ∷ ks) xs (fit_more k u h f) b e =
@@ -111,7 +111,7 @@ rounds_agree zero t = refl
 rounds_agree (suc n) t = let r = turns_agree t in ap₂ (λ (xs ys : List ℕ). xs ++ ys) r.0 (rounds_agree n r.1)
 
 -- the values whose turns give these bits
-fill : (n : ℕ) (ks xs : List ℕ) → AtMost n ks → All (λ b. b < 2) xs → length xs ≡ total ks → (vs : List ℕ) × Fit ks vs × (rounds n ks vs ≡ xs)
+fill : (n : ℕ) (ks xs : List ℕ) → AtMost n ks → AllByRecursion (λ b. b < 2) xs → length xs ≡ total ks → (vs : List ℕ) × Fit ks vs × (rounds n ks vs ≡ xs)
 fill zero ks xs h b e = (map (λ (k : ℕ). 0) ks, nothing ks, sym (nil_from_length xs (e ∙ none_left ks h)))
 fill (suc n) ks xs h b e =
     let s = front_total ks in

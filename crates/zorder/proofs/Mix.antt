@@ -2,7 +2,7 @@
 use Rattle.std.proofs.Common.{◌≡◌, ℕ, zero, suc, pred, ◌+◌, ◌*◌, ◌/◌, ◌%◌, ◌^◌, ◌≤◌, ◌⊎◌, List, [], ◌∷◌, ◌++◌, map, length, take, sym, refl, ap, ◌∙◌, inl, inr, one-add, arith, length-append}
 use native.Mathlib.Nat.{mod-one}
 use lib.Pow.{mod-pow-add}
-use Rattle.std.specs.List.{AllByRecursion as All}
+use Rattle.std.specs.List.{AllByRecursion}
 use Rattle.zorder.specs.Code.{turns, rounds, total}
 use Rattle.zorder.proofs.Order.{Each, done, each, lowered}
 
@@ -43,7 +43,7 @@ abbrev pub AtMost : ℕ → List ℕ → Type 0
 AtMost n [] = Unit {0}
 AtMost n (k ∷ ks) = (k ≤ n) × AtMost n ks
 
-pub most : (n : ℕ) (ks : List ℕ) → All (λ k. k ≤ n) ks → AtMost n ks
+pub most : (n : ℕ) (ks : List ℕ) → AllByRecursion (λ k. k ≤ n) ks → AtMost n ks
 most n [] h = tt
 most n (k ∷ ks) h = (h.0, most n ks h.1)
 

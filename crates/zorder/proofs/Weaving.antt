@@ -4,7 +4,7 @@ use native.Mathlib.Nat.{sub-zero}
 use lib.Bits.{bit_and, and_mask}
 use lib.ListN.{length-map}
 use Rattle.std.proofs.lemmas.List.{drop_more, get_or-map, drop_all}
-use Rattle.std.specs.List.{AllByRecursion as All}
+use Rattle.std.specs.List.{AllByRecursion}
 use Rattle.zorder.proofs.Bitlists.{digits_div}
 use Rattle.zorder.proofs.Order.{Each, done, each, Any, rounds_bin}
 use Rattle.zorder.proofs.Mix.{most, rounds_length}
@@ -78,7 +78,7 @@ shape [] (v ∷ vs) h = absurd (omega arith)
 shape (k ∷ ks) [] h = absurd (omega arith)
 shape (k ∷ ks) (v ∷ vs) h = each k v v tt (shape ks vs (omega arith))
 
-pub woven_lt : (n : ℕ) (ks vs : List ℕ) → length ks ≡ length vs → All (λ k. k ≤ n) ks → digits 0 (rounds n ks vs) < 2 ^ total ks
+pub woven_lt : (n : ℕ) (ks vs : List ℕ) → length ks ≡ length vs → AllByRecursion (λ k. k ≤ n) ks → digits 0 (rounds n ks vs) < 2 ^ total ks
 woven_lt n ks vs same h =
     let t = shape ks vs same in
     let xs = rounds n ks vs in
@@ -87,7 +87,7 @@ woven_lt n ks vs same h =
     subst (λ k. digits 0 xs < 2 ^ k) (rounds_length n t (most n ks h)) (rw one-mul at ((div-lt_iff_lt-mul (pow_pos (length xs))).0 l))
 
 -- a round fits, where the whole code does
-pub round_fits : (n r : ℕ) (ks vs : List ℕ) (m : ℕ) → r < n → length ks ≡ length vs → All (λ k. k ≤ n) ks → total ks ≤ 60
+pub round_fits : (n r : ℕ) (ks vs : List ℕ) (m : ℕ) → r < n → length ks ≡ length vs → AllByRecursion (λ k. k ≤ n) ks → total ks ≤ 60
     → digits m (rounds (n - r) (after r ks) vs) ≡ digits 0 (rounds n ks vs) → digits m (turns (after r ks) vs) < 2 ^ 64
 round_fits n r ks vs m h same narrow few e =
     let p : 2 ^ total ks ≤ 2 ^ 60 = pow_mono few in

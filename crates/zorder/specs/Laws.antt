@@ -2,7 +2,7 @@
 use Rattle.std.specs.Prelude.{◌≡◌, ℕ, ◌^◌, ◌<◌, ◌≤◌, List, ◌∷◌, ◌++◌, map, length, ℤ, ◌≢◌, bit_xor}
 use Rattle.std.specs.Int.Count.{count_leading_zeros}
 use Rattle.std.specs.Int.{int_min, int_max}
-use Rattle.std.specs.List.{AllByRecursion as All}
+use Rattle.std.specs.List.{AllByRecursion}
 use Rattle.zorder.specs.Code.{Axis, OnAxes, raise, rounds, digits, code, widths, width}
 use Rattle.zorder.specs.Sharing.{Shares, Common, on_each, least_corner, greatest_corner, Narrow, Under, Inside}
 use Rattle.zorder.specs.Halves.{half, Rising}
@@ -41,25 +41,25 @@ ZerosLaw = (w c d : ℕ) → c < 2 ^ w → d < 2 ^ w
 
 -- The corners of a set lie on the axes, the set lies between them, and every window that holds the set holds them.
 abbrev pub WindowLaw : Type 0
-WindowLaw = (axs : List Axis) (p : List ℤ) (ps : List (List ℤ)) → All (OnAxes axs) (p ∷ ps)
+WindowLaw = (axs : List Axis) (p : List ℤ) (ps : List (List ℤ)) → AllByRecursion (OnAxes axs) (p ∷ ps)
     → (OnAxes axs (least_corner p ps) × OnAxes axs (greatest_corner p ps))
-    × All (Inside (least_corner p ps) (greatest_corner p ps)) (p ∷ ps)
-    × ((low high : List ℤ) → All (Inside low high) (p ∷ ps) → Under low (least_corner p ps) × Under (greatest_corner p ps) high)
+    × AllByRecursion (Inside (least_corner p ps) (greatest_corner p ps)) (p ∷ ps)
+    × ((low high : List ℤ) → AllByRecursion (Inside low high) (p ∷ ps) → Under low (least_corner p ps) × Under (greatest_corner p ps) high)
 
 -- The corners' codes bound all codes of the set.
 abbrev pub BoundsLaw : Type 0
-BoundsLaw = (axs : List Axis) (p : List ℤ) (ps : List (List ℤ)) → All (OnAxes axs) (p ∷ ps)
-    → All (λ r. (code axs (least_corner p ps) ≤ code axs r) × (code axs r ≤ code axs (greatest_corner p ps))) (p ∷ ps)
+BoundsLaw = (axs : List Axis) (p : List ℤ) (ps : List (List ℤ)) → AllByRecursion (OnAxes axs) (p ∷ ps)
+    → AllByRecursion (λ r. (code axs (least_corner p ps) ≤ code axs r) × (code axs r ≤ code axs (greatest_corner p ps))) (p ∷ ps)
 
 -- The first bits that the corners' codes share are exactly those that all codes share.
 abbrev pub DepthLaw : Type 0
-DepthLaw = (axs : List Axis) → Narrow axs → (p : List ℤ) (ps : List (List ℤ)) → All (OnAxes axs) (p ∷ ps) → (n : ℕ)
+DepthLaw = (axs : List Axis) → Narrow axs → (p : List ℤ) (ps : List (List ℤ)) → AllByRecursion (OnAxes axs) (p ∷ ps) → (n : ℕ)
     → (Shares (width axs) n (code axs (least_corner p ps)) (code axs (greatest_corner p ps)) → Common (width axs) n (code axs p) (map (code axs) ps))
     × (Common (width axs) n (code axs p) (map (code axs) ps) → Shares (width axs) n (code axs (least_corner p ps)) (code axs (greatest_corner p ps)))
 
 -- So the depth of a set comes from its corners alone: the leading zeros, among W bits, of the xor of their codes.
 abbrev pub CornerLaw : Type 0
-CornerLaw = (axs : List Axis) → Narrow axs → (p : List ℤ) (ps : List (List ℤ)) → All (OnAxes axs) (p ∷ ps)
+CornerLaw = (axs : List Axis) → Narrow axs → (p : List ℤ) (ps : List (List ℤ)) → AllByRecursion (OnAxes axs) (p ∷ ps)
     → Common (width axs) (count_leading_zeros (width axs) (bit_xor (code axs (least_corner p ps)) (code axs (greatest_corner p ps)))) (code axs p) (map (code axs) ps)
 
 -- The corners of two parts give the corners of the whole.
@@ -76,7 +76,7 @@ abbrev pub HalvesLaw : Type 0
 HalvesLaw = (axs : List Axis) (n : ℕ) (p : List ℤ) (ps : List (List ℤ)) → n < width axs → Common (width axs) n (code axs p) (map (code axs) ps)
     → (0 < length (half (code axs) (width axs) n 0 (p ∷ ps)))
     × (0 < length (half (code axs) (width axs) n 1 (p ∷ ps)))
-    × All (λ low. All (λ high. code axs low < code axs high) (half (code axs) (width axs) n 1 (p ∷ ps))) (half (code axs) (width axs) n 0 (p ∷ ps))
+    × AllByRecursion (λ low. AllByRecursion (λ high. code axs low < code axs high) (half (code axs) (width axs) n 1 (p ∷ ps))) (half (code axs) (width axs) n 0 (p ∷ ps))
 
 -- The low half followed by the high half is the set in rising code.
 abbrev pub JoinLaw : Type 0
@@ -85,5 +85,5 @@ JoinLaw = (axs : List Axis) (n : ℕ) (p : List ℤ) (ps : List (List ℤ)) → 
 
 -- The codes of a set with two different points share fewer than W first bits, so such a set has two halves.
 abbrev pub ApartLaw : Type 0
-ApartLaw = (axs : List Axis) → Narrow axs → (n : ℕ) (p q : List ℤ) (ps : List (List ℤ)) → All (OnAxes axs) (p ∷ q ∷ ps) → (p ≢ q)
+ApartLaw = (axs : List Axis) → Narrow axs → (n : ℕ) (p q : List ℤ) (ps : List (List ℤ)) → AllByRecursion (OnAxes axs) (p ∷ q ∷ ps) → (p ≢ q)
     → Common (width axs) n (code axs p) (map (code axs) (q ∷ ps)) → n < width axs

@@ -1,7 +1,7 @@
 -- How many first bits codes share, and the corners of a set of points. A point is the list of its coordinates.
 use Rattle.std.specs.Prelude.{◌≡◌, ℕ, ◌<◌, ◌≤◌, List, [], ◌∷◌, ℤ, ◌≤ℤ◌, ◌≢◌}
 use Rattle.std.specs.Int.{int_min, int_max}
-use Rattle.std.specs.List.{AllByRecursion as All}
+use Rattle.std.specs.List.{AllByRecursion}
 use Rattle.zorder.specs.Code.{Axis, widths, first, bit_at}
 
 -- Two codes of w bits share n first bits: their n highest bits agree, and the next differs if there is one.
@@ -13,8 +13,8 @@ pub record Shares (w n c d : ℕ) : Type 0 where
 -- n is the number of first bits that c and all the codes of cs share: on these all agree, and on the next, if there is one, not all do.
 pub record Common (w n c : ℕ) (cs : List ℕ) : Type 0 where
   pub within : n ≤ w
-  pub agree : All (λ d. first w n c ≡ first w n d) cs
-  pub differ : n < w → All (λ d. bit_at w n c ≡ bit_at w n d) cs → ⊥
+  pub agree : AllByRecursion (λ d. first w n c ≡ first w n d) cs
+  pub differ : n < w → AllByRecursion (λ d. bit_at w n c ≡ bit_at w n d) cs → ⊥
 
 -- f of the two coordinates on each axis.
 abbrev pub on_each : (ℤ → ℤ → ℤ) → List ℤ → List ℤ → List ℤ
@@ -37,7 +37,7 @@ greatest_corner p ps = corner int_max p ps
 
 -- No axis has more than 32 bits.
 abbrev pub Narrow : List Axis → Type 0
-Narrow axs = All (λ k. k ≤ 32) (widths axs)
+Narrow axs = AllByRecursion (λ k. k ≤ 32) (widths axs)
 
 -- p is nowhere above q: on no axis is its coordinate greater.
 abbrev pub Under : List ℤ → List ℤ → Type 0

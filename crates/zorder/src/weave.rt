@@ -1,14 +1,14 @@
 // The loop that interleaves bits, and the number of first bits that two codes share.
 ghost use Rattle.std.specs.Prelude.{◌≡◌, ℕ, ◌+◌, ◌-◌, ◌*◌, ◌/◌, ◌%◌, ◌^◌, ◌<◌, ◌≤◌, length, bit_xor};
 ghost use Rattle.std.specs.Int.Count.{count_leading_zeros};
-ghost use Rattle.std.specs.List.{AllByRecursion as All};
+ghost use Rattle.std.specs.List.{AllByRecursion};
 ghost use Rattle.zorder.specs.Code.{digits, turns, after, total, woven};
 ghost use Rattle.zorder.specs.Sharing.{Shares};
 
 // One round: a turn of each axis, after `done` rounds, with the bits put behind those of `code`.
 fn round(code: u64, done: u32, widths: &[u32], values: &[u32]) -> u64
     requires same { length widths.now ≡ length values.now }
-    requires narrow { All (λ k. k ≤ 32) widths.now }
+    requires narrow { AllByRecursion (λ k. k ≤ 32) widths.now }
     requires fits { digits code (turns (after done widths.now) values.now) < 2 ^ 64 }
     ensures { result ≡ digits code (turns (after done widths.now) values.now) }
 {
@@ -25,7 +25,7 @@ fn round(code: u64, done: u32, widths: &[u32], values: &[u32]) -> u64
 // The code of raised values: 32 rounds of turns.
 pub fn weave(widths: &[u32], values: &[u32]) -> u64
     requires same { length widths.now ≡ length values.now }
-    requires narrow { All (λ k. k ≤ 32) widths.now }
+    requires narrow { AllByRecursion (λ k. k ≤ 32) widths.now }
     requires few { total widths.now ≤ 60 }
     ensures { result ≡ woven widths.now values.now }
 {

@@ -1,6 +1,6 @@
 // What is done with the points in the hand.
 ghost use Rattle.std.specs.Prelude.{◌≡◌, ◌+◌, ◌<◌, ◌≤◌, List, [], ◌∷◌, ◌++◌, map, length, take, drop, IfSome, slice_index_or};
-ghost use Rattle.std.specs.List.{AllByRecursion as All};
+ghost use Rattle.std.specs.List.{AllByRecursion};
 ghost use Rattle.zorder.specs.Halves.{half as half_of};
 ghost use Rattle.kinds.specs.Kind.{On, wide, code_of, low_corner, high_corner};
 ghost use Rattle.page.specs.Form.{data_view, encode};
@@ -19,7 +19,7 @@ impl<K: PointKind> Hand<K> {
     // The points of a data page; none where the bytes are those of no data page.
     pub fn of_page(bytes: &[u8; 64]) -> Option<Hand<K>>
         ensures tells { (ps : List K) → Reads K.PointKind.kind bytes.now (data_view (map K.PointKind.kind.coords ps)) → HoldsAll ps result }
-        ensures sane { IfSome result (λ h. (1 ≤ length (listed h)) × (length (listed h) ≤ K.PointKind.kind.capacity) × All (On K.PointKind.kind) (listed h)) }
+        ensures sane { IfSome result (λ h. (1 ≤ length (listed h)) × (length (listed h) ≤ K.PointKind.kind.capacity) × AllByRecursion (On K.PointKind.kind) (listed h)) }
     {
         let Ok(view) = DataView::<K>::new(0, bytes) else {
             return None;
@@ -57,7 +57,7 @@ impl<K: PointKind> Hand<K> {
     // Whether a point is among them.
     pub fn holds(&self, p: &K) -> bool
         requires on { On K.PointKind.kind p.now }
-        requires all_on { All (On K.PointKind.kind) (listed self.now) }
+        requires all_on { AllByRecursion (On K.PointKind.kind) (listed self.now) }
         ensures { result ≡ live (code_of K.PointKind.kind) p.now (listed self.now) }
     {
         let sought = p.code();
@@ -73,7 +73,7 @@ impl<K: PointKind> Hand<K> {
     // The points with one more, before the first of a higher code.
     pub fn with(&self, p: &K) -> Hand<K>
         requires on { On K.PointKind.kind p.now }
-        requires all_on { All (On K.PointKind.kind) (listed self.now) }
+        requires all_on { AllByRecursion (On K.PointKind.kind) (listed self.now) }
         requires few { length (listed self.now) ≤ K.PointKind.kind.capacity }
         ensures { listed result ≡ with_point (code_of K.PointKind.kind) p.now (listed self.now) }
     {
@@ -87,7 +87,7 @@ impl<K: PointKind> Hand<K> {
     // The points without one.
     pub fn without(&self, p: &K) -> Hand<K>
         requires on { On K.PointKind.kind p.now }
-        requires all_on { All (On K.PointKind.kind) (listed self.now) }
+        requires all_on { AllByRecursion (On K.PointKind.kind) (listed self.now) }
         ensures { listed result ≡ without_point (code_of K.PointKind.kind) p.now (listed self.now) }
     {
         let gone = p.code();
@@ -103,7 +103,7 @@ impl<K: PointKind> Hand<K> {
 
     // The points whose code has this bit behind the first `depth`.
     pub fn half(&self, depth: u32, bit: u64) -> Hand<K>
-        requires all_on { All (On K.PointKind.kind) (listed self.now) }
+        requires all_on { AllByRecursion (On K.PointKind.kind) (listed self.now) }
         requires shallow { depth < wide K.PointKind.kind }
         ensures { listed result ≡ half_of (code_of K.PointKind.kind) (wide K.PointKind.kind) depth bit (listed self.now) }
     {
@@ -211,7 +211,7 @@ impl<K: PointKind> Hand<K> {
     // How many points have no higher code than p, from the first on.
     fn place(&self, p: &K) -> usize
         requires on { On K.PointKind.kind p.now }
-        requires all_on { All (On K.PointKind.kind) (listed self.now) }
+        requires all_on { AllByRecursion (On K.PointKind.kind) (listed self.now) }
         ensures within { result ≤ length (listed self.now) }
         ensures splits { with_point (code_of K.PointKind.kind) p.now (listed self.now) ≡ take result (listed self.now) ++ (p.now ∷ drop result (listed self.now)) }
     {

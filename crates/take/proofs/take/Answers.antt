@@ -1,5 +1,5 @@
 use Rattle.std.proofs.Common.{◌≡◌, ℕ, ◌+◌, ◌<◌, List, length, set, Some, Err, Option, sym, refl, ap, ◌∙◌, subst, ap₂, inl, inr, arith}
-use Rattle.std.specs.List.{AllByRecursion as All}
+use Rattle.std.specs.List.{AllByRecursion}
 use Rattle.std.proofs.lemmas.List.{length-set}
 use Rattle.std.proofs.lemmas.Result.{err_from_is_err_and}
 use Rattle.page.specs.declared.head_page.Head.{Head}
@@ -114,7 +114,7 @@ returns g c =
     ∙ ap (λ i. encode k (head_view i next.free (root_summary k next.root))) made.first
     ∙ ap (λ i. encode k (head_view (front_of (freed taken) first) i (root_summary k next.root))) made.free
     ∙ ap (λ (o : Option Summary). encode k (head_view (front_of (freed taken) first) (length (freed taken) + free) o)) made.root) in
-    let within = subst (λ (a : Card). All (λ q. q < length a) (freed taken)) keeps sub.always.1 in
+    let within = subst (λ (a : Card). AllByRecursion (λ q. q < length a) (freed taken)) keeps sub.always.1 in
     record {
       lawful = λ ps w.
           let h = head_is k s card ps w c.in-Ok.bytes _ _ _ c.in-Ok.ensures.gives.1 c.in-Ok-read_head.ensures.1 in

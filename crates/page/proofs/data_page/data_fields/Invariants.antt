@@ -1,5 +1,5 @@
 use Rattle.std.proofs.Common.{◌≡◌, ◌*◌, List, length, take, drop}
-use Rattle.std.specs.List.{flat_map, AllByRecursion as All}
+use Rattle.std.specs.List.{flat_map, AllByRecursion}
 use Rattle.zorder.specs.Code.{OnAxes}
 use Rattle.kinds.specs.Bytes.{form, size}
 use Rattle.page.specs.Form.{Point}
@@ -7,5 +7,5 @@ use Rattle.page.proofs.data_page.data_fields.Given as goal
 
 abbrev pub invariant-loop-i : goal.invariant-loop-i
 invariant-loop-i g l =
-    (ps : List Point) × (length ps ≡ l.i) × All (OnAxes g.K.PointKind.kind.axes) ps
+    (ps : List Point) × (length ps ≡ l.i) × AllByRecursion (OnAxes g.K.PointKind.kind.axes) ps
     × (flat_map (form g.K.PointKind.kind.axes) ps ≡ take (l.i * size g.K.PointKind.kind.axes) (drop 2 l.bytes))

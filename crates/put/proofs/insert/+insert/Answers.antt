@@ -1,5 +1,5 @@
 use Rattle.std.proofs.Common.{◌<◌, length, set, sym, refl, ap, ◌∙◌, subst, inl, inr}
-use Rattle.std.specs.List.{AllByRecursion as All}
+use Rattle.std.specs.List.{AllByRecursion}
 use Rattle.std.proofs.lemmas.List.{length-set}
 use Rattle.page.specs.declared.tree_page.Node.{Node}
 use Rattle.page.specs.Checks.{NodeRead}
@@ -101,8 +101,8 @@ returns-then-shared-fork g t c =
     let keep = c.load.ensures.keeps in
     let fork = subst (NodeRead k bs) c.in-Directory.is c.in-Ok-read_node.ensures.1 in
     let e = c.put_beside.ensures in
-    let near = subst (λ (x : Card). All (λ q. q < length x) (spares c.args.spare)) (sym keep) c.requires.spare_there in
-    let both = subst (λ o. All (λ q. q < length (g.S.PageStore.pages c.load.new.store)) (spares o)) c.in-Some-spare.is near in
+    let near = subst (λ (x : Card). AllByRecursion (λ q. q < length x) (spares c.args.spare)) (sym keep) c.requires.spare_there in
+    let both = subst (λ o. AllByRecursion (λ q. q < length (g.S.PageStore.pages c.load.new.store)) (spares o)) c.in-Some-spare.is near in
     record {
       lawful = λ ps tree w. apart_put k s _ _ keep ps _ _ _ tree w bs _ _ _ c.in-Ok.ensures.gives.1 fork c.args.p.now _ c.depth-shared.ensures.shares c.in-Some-spare.pages _ _ c.if-shared-fork.true c.in-Some-spare.is both.0 both.1.0 e.entry e.used e.written;
       always = ap length e.written ∙ length-set _ _ _ ∙ length-set _ _ _ ∙ ap length keep;

@@ -1,5 +1,5 @@
 use Rattle.std.proofs.Common.{◌≡◌, ◌<◌, ◌≤◌, false, map, length, set, sym, refl, ap, ◌∙◌, subst, inl, inr, arith}
-use Rattle.std.specs.List.{AllByRecursion as All}
+use Rattle.std.specs.List.{AllByRecursion}
 use Rattle.std.proofs.lemmas.List.{length-set}
 use Rattle.kinds.specs.Kind.{On, code_of}
 use Rattle.page.specs.Form.{data_view, encode}
@@ -72,9 +72,9 @@ split-requires g c =
     let most = c.requires.few in
     let all = c.with-all.ensures in
     let l = ap length all ∙ length_with (code_of k) p xs in
-    let there = subst (λ o. All (λ q. q < length (g.S.PageStore.pages c.args.store.now)) (spares o)) c.in-Some.is c.requires.spare_there in
+    let there = subst (λ o. AllByRecursion (λ q. q < length (g.S.PageStore.pages c.args.store.now)) (spares o)) c.in-Some.is c.requires.spare_there in
     record {
-      on = subst (All (On k)) (sym all) (all_with (code_of k) (On k) p xs c.requires.on c.requires.all_on);
+      on = subst (AllByRecursion (On k)) (sym all) (all_with (code_of k) (On k) p xs c.requires.on c.requires.all_on);
       few = omega (arith, l, most);
       some = omega (arith, l);
       mixed = subst (Mixed k) (sym all) (with_mixed k s p xs (omega (arith, is_full, room)) new);
@@ -93,7 +93,7 @@ returns g c =
     let card = g.S.PageStore.pages c.args.store.now in
     let new : live (code_of k) p xs ≡ false = sym c.holds.ensures ∙ c.if-holds.false in
     let is_full : k.capacity ≤ length xs = omega (arith, c.count.ensures, c.capacity.ensures, c.if-count-capacity.false) in
-    let there = subst (λ o. All (λ q. q < length card) (spares o)) c.in-Some.is c.requires.spare_there in
+    let there = subst (λ o. AllByRecursion (λ q. q < length card) (spares o)) c.in-Some.is c.requires.spare_there in
     let done = subst (λ ys. Split k card ys c.args.at.now.page c.in-Some.pages c.split.result (g.S.PageStore.pages c.split.new.store)) c.with-all.ensures c.split.ensures in
     record {
       lawful = λ ps above q w. here_split k s _ ps _ c.args.spare above q xs p w new is_full c.in-Some.pages c.in-Some.is _ _ done there.0 there.1.0;
