@@ -1,4 +1,4 @@
-use Rattle.std.proofs.Common.{◌≡◌, ◌<◌, ◌≤◌, ◌≢◌, [], length, get_or, set, sym, ap, ◌∙◌, subst, ⊎_elim, arith, length-set, get_or-set_other, get_or-set_same}
+use Rattle.std.proofs.Common.{◌≡◌, ◌<◌, ◌≤◌, ◌≢◌, [], length, get_or, set, sym, ap, ◌∙◌, subst, ⊎_elim, arith, rules, length-set, get_or-set_other, get_or-set_same}
 use Rattle.std.proofs.lemmas.Bool.{cases_eq, cases_lt}
 use Rattle.page.specs.Form.{free_view, encode}
 use Rattle.tree.specs.Lawful.{page, begun_card, Lawful}
@@ -29,7 +29,7 @@ returns g c =
     let n = c.count-count.result in
     let inv = c.loop-page.invariant in
     let e : n ≡ length (g.S.PageStore.pages c.args.store.now) = c.count-count.ensures.gives in
-    let two : 2 ≤ n = omega (arith, c.if-count-lt2.false) in
+    let two : 2 ≤ n = search rules in
     let most : n ≤ 65535 = omega (arith, c.if-count-gt65535.false) in
     let is : g.S.PageStore.pages c.put_page-2.new.store ≡ begun_card k n =
     c.put_page-2.ensures ∙ made k n (g.S.PageStore.pages c.loop-page.store) _ (omega arith) inv.0 (λ q h lt. inv.1 q h (omega (arith, c.loop-page-test.false))) c.head_page.ensures in (
