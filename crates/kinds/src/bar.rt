@@ -1,12 +1,12 @@
 // Bar points.
 ghost use Rattle.std.specs.Prelude.{◌≡◌};
+ghost use Rattle.std.proofs.Common.{rules};
 ghost use Rattle.zorder.specs.Code.{raise};
 ghost use Rattle.kinds.specs.Kind.{On};
 ghost use Rattle.kinds.specs.Bar.{bar_axes, bar_kind};
 ghost use Rattle.kinds.specs.BarSound.{bar_sound};
 
 use crate::kind::PointKind;
-use crate::shape::Shape;
 use needle::Shog;
 use std::fmt;
 use zorder::weave::weave;
@@ -37,15 +37,27 @@ impl BarPoint {
 }
 
 impl PointKind for BarPoint {
+    ghost BITS = { 34 };
+
     const BITS: u32 = 34;
+
+    ghost CAPACITY = { 10 };
 
     const CAPACITY: usize = 10;
 
+    ghost SIZE = { 6 };
+
     const SIZE: usize = 6;
+
+    ghost DATA_PAGE = { 2 };
 
     const DATA_PAGE: u8 = 2;
 
+    ghost DIRECTORY_PAGE = { 4 };
+
     const DIRECTORY_PAGE: u8 = 4;
+
+    ghost HEAD_PAGE = { 6 };
 
     const HEAD_PAGE: u8 = 6;
 
@@ -53,20 +65,11 @@ impl PointKind for BarPoint {
 
     ghost sound = { bar_sound };
 
-    fn shape() -> Shape {
-        Shape {
-            bits: Self::BITS,
-            capacity: Self::CAPACITY,
-            size: Self::SIZE,
-            data_page: Self::DATA_PAGE,
-            directory_page: Self::DIRECTORY_PAGE,
-            head_page: Self::HEAD_PAGE,
-        }
-    }
+    ghost constants = { Prim.search rules };
 
     fn on_axes(&self) -> bool {
         let p = *self;
-        p.bar < BARS && p.shog >= Shog::LEAST && p.shog <= Shog::GREATEST
+        p.bar < BARS && Shog::new(p.shog).is_ok()
     }
 
     fn code(&self) -> u64 {
@@ -112,9 +115,10 @@ impl PointKind for BarPoint {
 
 impl fmt::Display for BarPoint {
     fn fmt<W: fmt::Write>(&self, f: &mut fmt::Formatter<W>) -> fmt::Result {
-        let course = self.course;
-        let bar = self.bar;
-        let shog = self.shog;
-        write!(f, "course {course}, bar {bar}, shog {shog}")
+        write!(
+            f,
+            "course {}, bar {}, shog {}",
+            self.course, self.bar, self.shog
+        )
     }
 }

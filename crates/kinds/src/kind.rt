@@ -1,36 +1,36 @@
 // The trait of point kinds.
-ghost use Rattle.std.specs.Prelude.{◌≡◌, length, IfSome, Some};
+ghost use Rattle.std.specs.Prelude.{◌≡◌, ℕ, length, IfSome, Some};
 ghost use Rattle.std.specs.Int.{int_min, int_max};
 ghost use Rattle.zorder.specs.Sharing.{Under, on_each};
 ghost use Rattle.kinds.specs.Kind.{Kind, Sound, Whether, On, wide, code_of, size_of, bytes_of};
 
-use crate::shape::Shape;
-
 // A kind of points: its axes, and how its values are points on them. What orders points, and every page, is said by `kind` alone.
 pub trait PointKind: Copy {
+    ghost BITS: { ℕ };
     // W, the number of bits of a code.
     const BITS: u32;
+
+    ghost CAPACITY: { ℕ };
     // b, the number of points that a data page has room for.
     const CAPACITY: usize;
+
+    ghost SIZE: { ℕ };
     // The number of bytes of a point.
     const SIZE: usize;
+
+    ghost DATA_PAGE: { ℕ };
     // The first byte of a data page.
     const DATA_PAGE: u8;
+
+    ghost DIRECTORY_PAGE: { ℕ };
     // The first byte of a directory page.
     const DIRECTORY_PAGE: u8;
+
+    ghost HEAD_PAGE: { ℕ };
     // The first byte of a head page.
     const HEAD_PAGE: u8;
 
     ghost kind: { Kind Self };
-
-    // The constants, which generic code reads here: their values are the kind's.
-    fn shape() -> Shape
-        ensures bits { result.bits ≡ wide kind }
-        ensures capacity { result.capacity ≡ kind.capacity }
-        ensures size { result.size ≡ size_of kind }
-        ensures data_page { result.data_page ≡ kind.data_kind }
-        ensures directory_page { result.directory_page ≡ kind.directory_kind }
-        ensures head_page { result.head_page ≡ kind.head_kind };
 
     // Whether each coordinate lies on its axis.
     fn on_axes(&self) -> bool
@@ -65,4 +65,7 @@ pub trait PointKind: Copy {
         ensures only { IfSome result (λ p. On kind p × (bytes_of kind p ≡ bytes.now)) };
 
     ghost sound: { Sound kind };
+
+    // The constants are the numbers of the kind.
+    ghost constants: { (BITS ≡ wide kind) × (CAPACITY ≡ kind.capacity) × (SIZE ≡ size_of kind) × (DATA_PAGE ≡ kind.data_kind) × (DIRECTORY_PAGE ≡ kind.directory_kind) × (HEAD_PAGE ≡ kind.head_kind) };
 }

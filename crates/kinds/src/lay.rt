@@ -1,12 +1,12 @@
 // Lay points.
 ghost use Rattle.std.specs.Prelude.{◌≡◌};
+ghost use Rattle.std.proofs.Common.{rules};
 ghost use Rattle.zorder.specs.Code.{raise};
 ghost use Rattle.kinds.specs.Kind.{On};
 ghost use Rattle.kinds.specs.Lay.{lay_axes, lay_kind};
 ghost use Rattle.kinds.specs.LaySound.{lay_sound};
 
 use crate::kind::PointKind;
-use crate::shape::Shape;
 use needle::Shog;
 use std::fmt;
 use zorder::weave::weave;
@@ -32,15 +32,27 @@ impl LayPoint {
 }
 
 impl PointKind for LayPoint {
+    ghost BITS = { 28 };
+
     const BITS: u32 = 28;
+
+    ghost CAPACITY = { 15 };
 
     const CAPACITY: usize = 15;
 
+    ghost SIZE = { 4 };
+
     const SIZE: usize = 4;
+
+    ghost DATA_PAGE = { 1 };
 
     const DATA_PAGE: u8 = 1;
 
+    ghost DIRECTORY_PAGE = { 3 };
+
     const DIRECTORY_PAGE: u8 = 3;
+
+    ghost HEAD_PAGE = { 5 };
 
     const HEAD_PAGE: u8 = 5;
 
@@ -48,20 +60,11 @@ impl PointKind for LayPoint {
 
     ghost sound = { lay_sound };
 
-    fn shape() -> Shape {
-        Shape {
-            bits: Self::BITS,
-            capacity: Self::CAPACITY,
-            size: Self::SIZE,
-            data_page: Self::DATA_PAGE,
-            directory_page: Self::DIRECTORY_PAGE,
-            head_page: Self::HEAD_PAGE,
-        }
-    }
+    ghost constants = { Prim.search rules };
 
     fn on_axes(&self) -> bool {
         let p = *self;
-        p.shog >= Shog::LEAST && p.shog <= Shog::GREATEST
+        Shog::new(p.shog).is_ok()
     }
 
     fn code(&self) -> u64 {
@@ -103,8 +106,6 @@ impl PointKind for LayPoint {
 
 impl fmt::Display for LayPoint {
     fn fmt<W: fmt::Write>(&self, f: &mut fmt::Formatter<W>) -> fmt::Result {
-        let course = self.course;
-        let shog = self.shog;
-        write!(f, "course {course}, shog {shog}")
+        write!(f, "course {}, shog {}", self.course, self.shog)
     }
 }

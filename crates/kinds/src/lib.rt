@@ -10,7 +10,6 @@ pub mod bar;
 pub mod kind;
 pub mod lay;
 pub mod points;
-pub mod shape;
 
 // The numbers of each kind: W, capacity, bytes of a point, kinds of its data, directory and head pages, and the lengths of their bodies.
 pub fn numbers_stand()

@@ -9,48 +9,6 @@ ghost use Rattle.kinds.specs.Kind.{Whether, On, wide, code_of, size_of, bytes_of
 use crate::kind::PointKind;
 use zorder::weave::shared_bits;
 
-// W, the number of bits of a code.
-pub fn bits<K: PointKind>() -> u32
-    ensures { result ≡ wide K.PointKind.kind }
-{
-    K::shape().bits
-}
-
-// b, the number of points that a data page has room for.
-pub fn capacity<K: PointKind>() -> usize
-    ensures { result ≡ K.PointKind.kind.capacity }
-{
-    K::shape().capacity
-}
-
-// The number of bytes of a point.
-pub fn size<K: PointKind>() -> usize
-    ensures { result ≡ size_of K.PointKind.kind }
-{
-    K::shape().size
-}
-
-// The first byte of a data page.
-pub fn data_kind<K: PointKind>() -> u8
-    ensures { result ≡ K.PointKind.kind.data_kind }
-{
-    K::shape().data_page
-}
-
-// The first byte of a directory page.
-pub fn directory_kind<K: PointKind>() -> u8
-    ensures { result ≡ K.PointKind.kind.directory_kind }
-{
-    K::shape().directory_page
-}
-
-// The first byte of a head page.
-pub fn head_kind<K: PointKind>() -> u8
-    ensures { result ≡ K.PointKind.kind.head_kind }
-{
-    K::shape().head_page
-}
-
 // Whether a point lies in the window of two corners, both ends included.
 pub fn inside<K: PointKind>(p: &K, low: &K, high: &K) -> bool
     ensures { Whether result (Inside (K.PointKind.kind.coords low.now) (K.PointKind.kind.coords high.now) (K.PointKind.kind.coords p.now)) }
@@ -88,7 +46,7 @@ pub fn depth<K: PointKind>(low: &K, high: &K) -> u32
     ensures shares { Shares (wide K.PointKind.kind) result (code_of K.PointKind.kind low.now) (code_of K.PointKind.kind high.now) }
     ensures set { (p : K) (ps : List K) → AllByRecursion (On K.PointKind.kind) (p ∷ ps) → K.PointKind.kind.coords low.now ≡ low_corner K.PointKind.kind (p ∷ ps) → K.PointKind.kind.coords high.now ≡ high_corner K.PointKind.kind (p ∷ ps) → Common (wide K.PointKind.kind) result (code_of K.PointKind.kind p) (map (code_of K.PointKind.kind) ps) }
 {
-    shared_bits(bits::<K>(), low.code(), high.code())
+    shared_bits(K::BITS, low.code(), high.code())
 }
 
 // Bit n of the code: the bit that follows the first n.
@@ -97,7 +55,7 @@ pub fn bit<K: PointKind>(p: &K, n: u32) -> u64
     requires below { n < wide K.PointKind.kind }
     ensures { result ≡ bit_at (wide K.PointKind.kind) n (code_of K.PointKind.kind p.now) }
 {
-    (p.code() >> (bits::<K>() - 1 - n)) % 2
+    (p.code() >> (K::BITS - 1 - n)) % 2
 }
 
 // The bytes of points on their axes: as many for each point, and different for different points.

@@ -20,9 +20,7 @@ pub struct Needles {
 
 impl fmt::Display for Needles {
     fn fmt<W: fmt::Write>(&self, f: &mut fmt::Formatter<W>) -> fmt::Result {
-        let whole = self.whole;
-        let half = self.half;
-        write!(f, "whole {whole}, half {half}")
+        write!(f, "whole {}, half {}", self.whole, self.half)
     }
 }
 
@@ -44,11 +42,9 @@ pub fn join(whole: i16, half: u8) -> Result<i16, Refusal>
     if half > 1 {
         return Err(Refusal::OffAxis);
     }
-    let Some(twice) = whole.checked_mul(2) else {
-        return Err(Refusal::OffAxis);
-    };
+    let twice = whole.checked_mul(2).ok_or(Refusal::OffAxis)?;
     // twice an even number of at most 32,766 leaves room for the half
-    let shog = Shog::new(twice + half as i16)?;
+    let shog = Shog::new(twice + i16::from(half))?;
     Ok(shog.half_needles())
 }
 

@@ -20,7 +20,7 @@ impl Shog {
     pub fn new(half_needles: i16) -> Result<Shog, Refusal>
         ensures { MatchResult result (λ s. s.half_needles ≡ half_needles) (λ e. ((negsuc 2047 ≤ℤ half_needles) × (half_needles ≤ℤ pos 2047) → ⊥) × (number e ≡ 3)) }
     {
-        if half_needles < Shog::LEAST || half_needles > Shog::GREATEST {
+        if !(Shog::LEAST..=Shog::GREATEST).contains(&half_needles) {
             return Err(Refusal::OffAxis);
         }
         Ok(Shog { half_needles })

@@ -65,9 +65,7 @@ impl Refusal {
 
 impl fmt::Display for Refusal {
     fn fmt<W: fmt::Write>(&self, f: &mut fmt::Formatter<W>) -> fmt::Result {
-        let number = self.number();
-        let reason = self.reason();
-        write!(f, "refused {number}: {reason}")
+        write!(f, "refused {}: {}", self.number(), self.reason())
     }
 }
 

@@ -46,11 +46,7 @@ impl<S: PageStore> Watched<S> {
     pub fn into_inner(self) -> S
         ensures gives { result ≡ self.inner }
     {
-        let Watched {
-            inner,
-            reads: _,
-            writes: _,
-        } = self;
+        let Watched { inner, .. } = self;
         inner
     }
 }
