@@ -9,7 +9,7 @@ ghost use Rattle.kinds.specs.BarSound.{bar_sound};
 use crate::kind::PointKind;
 use needle::Shog;
 use std::fmt;
-use zorder::weave::weave;
+use zorder::weave::{Raised, weave};
 
 // The number of guide bars, 0 to 63.
 const BARS: u16 = 64;
@@ -73,7 +73,20 @@ impl PointKind for BarPoint {
     }
 
     fn code(&self) -> u64 {
-        weave(&[16, 6, 12], &self.raised())
+        let [course, bar, shog] = self.raised();
+        let course = Raised {
+            width: 16,
+            value: course,
+        };
+        let bar = Raised {
+            width: 6,
+            value: bar,
+        };
+        let shog = Raised {
+            width: 12,
+            value: shog,
+        };
+        weave(&[course, bar, shog])
     }
 
     fn under(&self, other: &BarPoint) -> bool {

@@ -9,7 +9,7 @@ ghost use Rattle.kinds.specs.LaySound.{lay_sound};
 use crate::kind::PointKind;
 use needle::Shog;
 use std::fmt;
-use zorder::weave::weave;
+use zorder::weave::{Raised, weave};
 
 // A point of a lay: a course, and a shog in half needles.
 #[derive(Clone, Copy, PartialEq, Eq, Debug)]
@@ -68,7 +68,16 @@ impl PointKind for LayPoint {
     }
 
     fn code(&self) -> u64 {
-        weave(&[16, 12], &self.raised())
+        let [course, shog] = self.raised();
+        let course = Raised {
+            width: 16,
+            value: course,
+        };
+        let shog = Raised {
+            width: 12,
+            value: shog,
+        };
+        weave(&[course, shog])
     }
 
     fn under(&self, other: &LayPoint) -> bool {

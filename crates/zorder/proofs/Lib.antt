@@ -5,6 +5,7 @@ pub mod Shared
 pub mod Raised
 pub mod Cornering
 pub mod Weaving
+pub mod Points
 pub mod Corners
 pub mod Halving
 pub mod Inverse

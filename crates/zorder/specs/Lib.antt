@@ -2,3 +2,4 @@ pub mod Code
 pub mod Sharing
 pub mod Halves
 pub mod Laws
+pub mod Raising

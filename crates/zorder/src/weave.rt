@@ -3,35 +3,41 @@ ghost use Rattle.std.specs.Prelude.{◌≡◌, ℕ, ◌+◌, ◌-◌, ◌*◌, �
 ghost use Rattle.std.specs.Int.Count.{count_leading_zeros};
 ghost use Rattle.std.specs.List.{AllByRecursion};
 ghost use Rattle.zorder.specs.Code.{digits, turns, after, total, woven};
+ghost use Rattle.zorder.specs.Raising.{widths_of, values_of};
 ghost use Rattle.zorder.specs.Sharing.{Shares};
 
+// A raised coordinate, and the number of bits of its axis.
+#[derive(Clone, Copy, PartialEq, Eq, Debug)]
+pub struct Raised {
+    pub width: u32,
+    pub value: u32,
+}
+
 // One round: a turn of each axis, after `done` rounds, with the bits put behind those of `code`.
-fn round(code: u64, done: u32, widths: &[u32], values: &[u32]) -> u64
-    requires same { length widths.now ≡ length values.now }
-    requires narrow { AllByRecursion (λ k. k ≤ 32) widths.now }
-    requires fits { digits code (turns (after done widths.now) values.now) < 2 ^ 64 }
-    ensures { result ≡ digits code (turns (after done widths.now) values.now) }
+fn round(code: u64, done: u32, point: &[Raised]) -> u64
+    requires narrow { AllByRecursion (λ k. k ≤ 32) (widths_of point.now) }
+    requires fits { digits code (turns (after done (widths_of point.now)) (values_of point.now)) < 2 ^ 64 }
+    ensures { result ≡ digits code (turns (after done (widths_of point.now)) (values_of point.now)) }
 {
     let mut woven = code;
-    for i in 0..widths.len() {
-        let width = widths[i];
+    for raised in point {
+        let Raised { width, value } = *raised;
         if done < width {
-            woven = woven * 2 + ((values[i] >> (width - 1 - done)) & 1) as u64;
+            woven = woven * 2 + u64::from((value >> (width - 1 - done)) & 1);
         }
     }
     woven
 }
 
-// The code of raised values: 32 rounds of turns.
-pub fn weave(widths: &[u32], values: &[u32]) -> u64
-    requires same { length widths.now ≡ length values.now }
-    requires narrow { AllByRecursion (λ k. k ≤ 32) widths.now }
-    requires few { total widths.now ≤ 60 }
-    ensures { result ≡ woven widths.now values.now }
+// The code of a point's raised coordinates, axis by axis: 32 rounds of turns.
+pub fn weave(point: &[Raised]) -> u64
+    requires narrow { AllByRecursion (λ k. k ≤ 32) (widths_of point.now) }
+    requires few { total (widths_of point.now) ≤ 60 }
+    ensures { result ≡ woven (widths_of point.now) (values_of point.now) }
 {
     let mut code = 0;
     for done in 0..32 {
-        code = round(code, done, widths, values);
+        code = round(code, done, point);
     }
     code
 }

@@ -1,5 +1,7 @@
 use Rattle.std.proofs.Common.{◌+◌, ◌-◌, ap, ◌∙◌, arith}
 use Rattle.zorder.specs.Code.{digits, rounds, after, woven}
+use Rattle.zorder.specs.Raising.{widths_of, values_of}
+use Rattle.zorder.proofs.Points.{same}
 use Rattle.zorder.proofs.Weaving.{after_none, round_more, round_fits}
 use Rattle.zorder.proofs.weave.weave.Goals as goal
 
@@ -7,18 +9,17 @@ pub round-code-requires : goal.round-code-requires
 unfolding woven
 round-code-requires c =
     record {
-      same = c.requires.same;
       narrow = c.requires.narrow;
-      fits = round_fits 32 c.loop-done.done c.args.widths.now c.args.values.now c.loop-done.code (omega arith) c.requires.same c.requires.narrow c.requires.few c.loop-done.invariant;
+      fits = round_fits 32 c.loop-done.done (widths_of c.args.point.now) (values_of c.args.point.now) c.loop-done.code (omega arith) (same c.args.point.now) c.requires.narrow c.requires.few c.loop-done.invariant;
     }
 
 pub loop-done-init : goal.loop-done-init
 unfolding woven
-loop-done-init c = ap (λ ks. digits 0 (rounds 32 ks c.args.values.now)) (after_none c.args.widths.now)
+loop-done-init c = ap (λ ks. digits 0 (rounds 32 ks (values_of c.args.point.now))) (after_none (widths_of c.args.point.now))
 
 pub loop-done-preserved : goal.loop-done-preserved
 loop-done-preserved c =
-    let ks = c.args.widths.now in
-    let vs = c.args.values.now in
+    let ks = (widths_of c.args.point.now) in
+    let vs = (values_of c.args.point.now) in
     let r = c.loop-done.done in
     ap (λ m. digits m (rounds (32 - (r + 1)) (after (r + 1) ks) vs)) c.round-code.ensures ∙ round_more 32 r ks vs c.loop-done.code (omega arith) ∙ c.loop-done.invariant
