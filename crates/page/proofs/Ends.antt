@@ -14,8 +14,8 @@ use Rattle.page.proofs.Runs.{drop_plus, take_drop}
 use Rattle.page.proofs.Pairs.{entry_size}
 
 -- all of what is left
-pub cut_rest : (bs : List ℕ) (a : ℕ) → take (length bs - a) (drop a bs) ≡ drop a bs
-cut_rest bs a = let l = length-drop a bs in take_all (length bs - a) (drop a bs) (omega arith)
+pub cut_rest : (bs : List ℕ) (n a : ℕ) → length bs ≡ n → take (n - a) (drop a bs) ≡ drop a bs
+cut_rest bs n a whole = let l = length-drop a bs in take_all (n - a) (drop a bs) (omega arith)
 
 -- a list of zero bytes is as long as it is
 pub as_long : (xs : List ℕ) (m : ℕ) → xs ≡ replicate m 0 → xs ≡ replicate (length xs) 0
@@ -119,8 +119,8 @@ module _ {P : Type 0} (k : Kind P) (bs : List ℕ) where
 pub cut_root : (bs : List ℕ) (z : ℕ) → take ((5 + z) - 5) (drop 5 bs) ≡ take z (drop 5 bs)
 cut_root bs z = let e : (5 + z) - 5 ≡ z = omega arith in ap (λ n. take n (drop 5 bs)) e
 
-pub cut_after : (bs : List ℕ) (z : ℕ) → take (length bs - (5 + z)) (drop (5 + z) bs) ≡ drop z (drop 5 bs)
-cut_after bs z = cut_rest bs (5 + z) ∙ drop_plus 5 z bs
+pub cut_after : (bs : List ℕ) (n z : ℕ) → length bs ≡ n → take (n - (5 + z)) (drop (5 + z) bs) ≡ drop z (drop 5 bs)
+cut_after bs n z whole = cut_rest bs n (5 + z) whole ∙ drop_plus 5 z bs
 
 -- a part of a page is as long as it is cut
 pub part_size : (a z : ℕ) (bs : List ℕ) → a + z ≤ length bs → length (take z (drop a bs)) ≡ z

@@ -1,15 +1,17 @@
 -- Each cause makes the bytes senseless.
-use Rattle.std.proofs.Common.{◌≡◌, ℕ, zero, suc, ◌+◌, ◌-◌, ◌*◌, ◌<◌, ◌≤◌, Bool, true, false, ◌≢◌, List, [], ◌∷◌, length, get_or, take, drop, replicate, Some, None, MatchBool, Option, sym, refl, ap, ◌∙◌, subst, arith, length-drop, get_or-drop}
+use Rattle.std.proofs.Common.{rules, ◌≡◌, ℕ, zero, suc, ◌+◌, ◌-◌, ◌*◌, ◌<◌, ◌≤◌, Bool, true, false, ◌≢◌, List, [], ◌∷◌, length, get_or, take, drop, replicate, Some, None, MatchBool, Option, sym, refl, ap, ◌∙◌, subst, arith, length-drop, get_or-drop}
 use Rattle.std.specs.List.{flat_map, AllByRecursion}
 use Rattle.std.proofs.ByRecursion.{All-get_or}
 use Rattle.zorder.specs.Code.{OnAxes}
 use Rattle.zorder.specs.Sharing.{Under}
 use Rattle.kinds.specs.Bytes.{form, size}
 use Rattle.kinds.specs.Kind.{Kind, Sound, entry_length}
-use Rattle.page.specs.Form.{Point, Summary, root_bytes}
+use Rattle.std.specs.Option.{ok_or}
+use Rattle.page.specs.Form.{Point, Summary, root_bytes, times}
+use Rattle.page.specs.declared.fault.PageFault.TheVariants as fault
 use Rattle.page.specs.Fields.{RootFields}
 use Rattle.page.specs.Causes.{NotZero, AllZero, EntryCause, DataCause, DirectoryCause, HeadCause, Cause, low_off, high_off, crossed, no_points, too_many, point_off, data_not_zero, too_deep, low_wrong, high_wrong, directory_not_zero, root_wrong, head_not_zero, free_cause, data_cause, directory_cause, head_cause, root_entry_bytes}
-use Rattle.page.specs.Checks.{Senseless, DataRead}
+use Rattle.page.specs.Checks.{Senseless, DataRead, Checked}
 use Rattle.page.specs.Laws.{CausesLaw, EntryCausesLaw}
 use Rattle.page.proofs.Parts.{parts, same_corner}
 use Rattle.page.proofs.Runs.{zero_at, drop_plus, data_only, count_is, point_part, tail_part, data_reads, tail_cut, tail_length}
@@ -23,9 +25,9 @@ one_not_zero (zero ∷ xs) h = let r = one_not_zero xs (λ e. h (ap (λ ys. 0 �
 one_not_zero (suc x ∷ xs) h = (0, omega arith, λ e. omega arith)
 
 -- the bytes from a place on, as the code cuts them
-pub not_zero_from : (a b : ℕ) (bs : List ℕ) → (AllZero (take (length bs - a) (drop a bs)) → ⊥) → a ≡ b → NotZero b bs
-not_zero_from a b bs h same =
-    let c = cut_rest bs a in
+pub not_zero_from : (n a b : ℕ) (bs : List ℕ) → length bs ≡ n → (AllZero (take (n - a) (drop a bs)) → ⊥) → a ≡ b → NotZero b bs
+not_zero_from n a b bs whole h same =
+    let c = cut_rest bs n a whole in
     let (i, lt, ne) = one_not_zero (drop a bs) (λ e. h (c ∙ e ∙ ap (λ x. replicate (length x) 0) (sym c))) in
     let l = length-drop a bs in
     record { place = a + i; after = omega arith; within = omega arith; unlike = λ e. ne (get_or-drop a bs i 0 ∙ e) }
@@ -74,7 +76,7 @@ module _ {P : Type 0} (k : Kind P) (laws : Sound k) (bs : List ℕ) where
       entry_wrong k laws _ w d.high_entry (f.0.high_entry, f.2, high_is k bs (entry_length k) refl d)
   directory_wrong kind (directory_not_zero w) v r =
       let t = tail_is k bs (entry_length k) refl (directory_only k bs laws kind v r) in
-      zero_from (2 + 2 * entry_length k) t.0 bs (sym (cut_rest bs (2 + 2 * entry_length k)) ∙ cut_tail bs (entry_length k) ∙ t.1) w
+      zero_from (2 + 2 * entry_length k) t.0 bs (sym (cut_rest bs _ (2 + 2 * entry_length k) refl) ∙ cut_tail bs _ (entry_length k) refl ∙ t.1) w
 
   -- a root that is neither all zero nor an entry
   root_none : (o : Option Summary) → RootFields k o → root_bytes k o ≡ root_entry_bytes k bs → (AllZero (root_entry_bytes k bs) → ⊥) → EntryCause k (root_entry_bytes k bs) → ⊥
@@ -103,12 +105,18 @@ causes_law k laws bs w = (refused k laws bs w).0
 -- the end of a data page: the bytes after its points are all zero, or one of them is not
 pub data_end : {P : Type 0} (k : Kind P) → Sound k → (bs : List ℕ) (ps : List Point) (r : ℕ) (t : Bool) → length bs ≡ 64 → get_or bs 0 0 ≡ k.data_kind → length ps ≡ get_or bs 1 0 → 1 ≤ get_or bs 1 0 → get_or bs 1 0 ≤ k.capacity → AllByRecursion (OnAxes k.axes) ps
     → flat_map (form k.axes) ps ≡ take (get_or bs 1 0 * size k.axes) (drop 2 bs) → r ≡ size k.axes
-    → MatchBool t (AllZero (take (length bs - (2 + get_or bs 1 0 * r)) (drop (2 + get_or bs 1 0 * r) bs))) (AllZero (take (length bs - (2 + get_or bs 1 0 * r)) (drop (2 + get_or bs 1 0 * r) bs)) → ⊥) → DataRead k bs t
+    → MatchBool t (AllZero (take (64 - (2 + get_or bs 1 0 * r)) (drop (2 + get_or bs 1 0 * r) bs))) (AllZero (take (64 - (2 + get_or bs 1 0 * r)) (drop (2 + get_or bs 1 0 * r) bs)) → ⊥) → DataRead k bs t
 data_end k laws bs ps r true whole kind l one fit on j e z =
     let s = size k.axes in
     let n = get_or bs 1 0 in
-    let tc = tail_cut bs n r s e in
+    let tc = tail_cut bs n r s whole e in
     let tl = tail_length bs n s in
     (ps, data_reads k bs ps n whole kind refl l one fit on j (length (drop (n * s) (drop 2 bs))) (sym tc ∙ z ∙ ap (λ x. replicate (length x) 0) tc) (omega arith))
 data_end k laws bs ps r false whole kind l one fit on j e z =
-    refused k laws bs (data_cause kind (data_not_zero (not_zero_from (2 + get_or bs 1 0 * r) _ bs z (ap (λ x. 2 + get_or bs 1 0 * x) e))))
+    refused k laws bs (data_cause kind (data_not_zero (not_zero_from 64 (2 + get_or bs 1 0 * r) _ bs whole z (ap (λ x. 2 + get_or bs 1 0 * x) e))))
+
+-- what was read of a page whose kind is right, or the fault of a wrong field
+pub field_or : {P X : Type 0} (k : Kind P) (page kind : ℕ) (bs : List ℕ) (R : Option X → Type 0) → get_or bs 0 0 ≡ kind → (R None → Senseless k bs × Cause k bs)
+    → (o : Option X) → R o → Checked k page (kind ∷ []) bs (λ x. R (Some x)) (ok_or o (fault.Field page))
+field_or k page kind bs R is none None r = let w = none r in (refl, search rules, w.0, w.1)
+field_or k page kind bs R is none (Some x) r = (search rules, r)

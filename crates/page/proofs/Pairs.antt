@@ -17,11 +17,11 @@ cut_low bs z = let e : (2 + z) - 2 ≡ z = omega arith in ap (λ n. take n (drop
 pub cut_high : (bs : List ℕ) (z : ℕ) → take ((2 + 2 * z) - (2 + z)) (drop (2 + z) bs) ≡ take z (drop z (drop 2 bs))
 cut_high bs z = let e : (2 + 2 * z) - (2 + z) ≡ z = omega arith in ap (λ n. take n (drop (2 + z) bs)) e ∙ ap (take z) (drop_plus 2 z bs)
 
-pub cut_tail : (bs : List ℕ) (z : ℕ) → take (length bs - (2 + 2 * z)) (drop (2 + 2 * z) bs) ≡ drop z (drop z (drop 2 bs))
-cut_tail bs z =
+pub cut_tail : (bs : List ℕ) (n z : ℕ) → length bs ≡ n → take (n - (2 + 2 * z)) (drop (2 + 2 * z) bs) ≡ drop z (drop z (drop 2 bs))
+cut_tail bs n z whole =
     let l = length-drop (2 + 2 * z) bs in
     let e : 2 + 2 * z ≡ 2 + (z + z) = omega arith in
-    take_all (length bs - (2 + 2 * z)) (drop (2 + 2 * z) bs) (omega arith) ∙ ap (λ n. drop n bs) e ∙ drop_plus 2 (z + z) bs ∙ drop_plus z z (drop 2 bs)
+    take_all (n - (2 + 2 * z)) (drop (2 + 2 * z) bs) (omega arith) ∙ ap (λ i. drop i bs) e ∙ drop_plus 2 (z + z) bs ∙ drop_plus z z (drop 2 bs)
 
 module _ {P : Type 0} (k : Kind P) (bs : List ℕ) where
   pub entry_size : (e : Summary) → EntryFields k e → length (entry_bytes k e) ≡ 6 + 2 * size k.axes

@@ -1,10 +1,11 @@
 -- The parts of a data page.
-use Rattle.std.proofs.Common.{◌≡◌, ℕ, zero, suc, ◌+◌, ◌-◌, ◌*◌, ◌<◌, ◌≤◌, List, [], ◌∷◌, ◌++◌, length, get_or, take, drop, replicate, sym, refl, ap, ◌∙◌, append_assoc, mul-le-mul_right, suc-mul, add-mul, one-mul, arith, length-append, length-drop}
-use Rattle.std.specs.List.{flat_map, AllByRecursion}
+use Rattle.std.proofs.Common.{◌≡◌, Bool, true, false, ◌≢◌, ℕ, zero, suc, ◌+◌, ◌-◌, ◌*◌, ◌<◌, ◌≤◌, List, [], ◌∷◌, ◌++◌, length, get_or, take, drop, replicate, sym, refl, ap, ◌∙◌, append_assoc, mul-le-mul_right, suc-mul, add-mul, one-mul, arith, length-append, length-drop}
+use Rattle.std.specs.Prelude.{MatchBool}
+use Rattle.std.specs.List.{flat_map, AllByRecursion, AllWithin, HoldsAt}
 use Rattle.std.proofs.lemmas.List.{take_at, take_all, drop_at, append-nil}
 use Rattle.zorder.specs.Code.{OnAxes}
 use Rattle.kinds.specs.Bytes.{form, size}
-use Rattle.kinds.specs.Kind.{Kind, Sound}
+use Rattle.kinds.specs.Kind.{Kind, Sound, Whether}
 use Rattle.page.specs.Form.{Point}
 use Rattle.page.specs.Form.{View, free_view, data_view, directory_view, head_view, encode}
 use Rattle.page.specs.Fields.{Reads}
@@ -160,10 +161,15 @@ end_page n cap s r le e fit =
     let b : n * s ≤ cap * s = mul-le-mul_right s le in
     omega arith
 
-pub tail_cut : (bs : List ℕ) (n r s : ℕ) → r ≡ s → take (length bs - (2 + n * r)) (drop (2 + n * r) bs) ≡ drop (n * s) (drop 2 bs)
-tail_cut bs n r s e =
+pub tail_cut : (bs : List ℕ) (n r s : ℕ) → length bs ≡ 64 → r ≡ s → take (64 - (2 + n * r)) (drop (2 + n * r) bs) ≡ drop (n * s) (drop 2 bs)
+tail_cut bs n r s whole e =
     let l = length-drop (2 + n * r) bs in
-    take_all (length bs - (2 + n * r)) (drop (2 + n * r) bs) (omega arith) ∙ ap (λ x. drop (2 + n * x) bs) e ∙ drop_plus 2 (n * s) bs
+    take_all (64 - (2 + n * r)) (drop (2 + n * r) bs) (omega arith) ∙ ap (λ x. drop (2 + n * x) bs) e ∙ drop_plus 2 (n * s) bs
 
 pub tail_length : (bs : List ℕ) (n s : ℕ) → length (drop (n * s) (drop 2 bs)) ≡ length bs - (2 + n * s)
 tail_length bs n s = ap length (sym (drop_plus 2 (n * s) bs)) ∙ length-drop (2 + n * s) bs
+
+-- a walk through the bytes that ends at the first one that is not zero
+pub zeros_told : (bs : List ℕ) (r : Bool) → MatchBool r (AllWithin (λ x. x ≡ 0) bs 0 (length bs)) ((k : ℕ) × (k < length bs) × HoldsAt (λ x. x ≢ 0) bs k) → Whether r (bs ≡ replicate (length bs) 0)
+zeros_told bs true h = zeros_from bs (λ q lt. h q 0 (omega arith) lt)
+zeros_told bs false h = λ e. h.2 0 (zeros_all bs h.0 e)

@@ -1,5 +1,5 @@
 -- Writing a page from its front on.
-use Rattle.std.proofs.Common.{◌≡◌, ℕ, zero, suc, ◌+◌, ◌-◌, ◌/◌, ◌%◌, ◌<◌, ◌≤◌, List, [], ◌∷◌, ◌++◌, map, length, get_or, take, drop, set, replicate, sym, refl, ap, ◌∙◌, append_assoc, arith, length-append, length-drop, length-take}
+use Rattle.std.proofs.Common.{◌≡◌, ℕ, zero, suc, ◌+◌, ◌-◌, ◌/◌, ◌%◌, ◌<◌, ◌≤◌, List, [], ◌∷◌, ◌++◌, map, length, get_or, take, drop, set, replicate, sym, refl, ap, subst, ◌∙◌, append_assoc, arith, length-append, length-drop, length-take}
 use lib.ListN.{length-replicate}
 use native.Mathlib.Nat.{min-eq_left}
 use borrow.Rule.Slice.PartMut.{put_mid}
@@ -42,6 +42,10 @@ four_bytes x =
     let a : x / 65536 % 256 ≡ x / 256 / 256 % 256 = omega arith in
     let b : x / 16777216 % 256 ≡ x / 256 / 256 / 256 % 256 = omega arith in
     ap (λ z. (x % 256) ∷ ((x / 256 % 256) ∷ (z ∷ ((x / 16777216 % 256) ∷ [])))) a ∙ ap (λ z. (x % 256) ∷ ((x / 256 % 256) ∷ ((x / 256 / 256 % 256) ∷ (z ∷ [])))) b
+
+-- the bytes that are added, by another name
+pub adds_as : (before : List ℕ) (at : ℕ) (after u v : List ℕ) → u ≡ v → Adds before at u after → Adds before at v after
+adds_as before at after u v e a = subst (λ z. Adds before at z after) e a
 
 -- two additions in a row are one
 pub adds_more : (at n : ℕ) (xs ys zs u v : List ℕ) → n ≡ at + length u → Adds xs at u ys → Adds ys n v zs → Adds xs at (u ++ v) zs

@@ -8,7 +8,6 @@ ghost use Rattle.page.specs.Checks.{Checked, DataRead, IsData, PointRead, PointA
 use crate::fault::PageFault;
 use crate::zeros::zeros;
 use kinds::kind::PointKind;
-use kinds::points::{capacity, data_kind, size};
 use std::marker::PhantomData;
 
 // A data page, whose points are shown as parts of its bytes.
@@ -23,7 +22,7 @@ impl<'a, K: PointKind> DataView<'a, K> {
     pub fn new(page: usize, bytes: &'a [u8; 64]) -> Result<DataView<'a, K>, PageFault>
         ensures { Checked K.PointKind.kind page (K.PointKind.kind.data_kind ∷ []) bytes.now (λ v. (v.bytes.now ≡ bytes.now) × IsData K.PointKind.kind bytes.now) result }
     {
-        if bytes[0] != data_kind::<K>() {
+        if bytes[0] != K::DATA_PAGE {
             return Err(PageFault::Kind(page));
         }
         if !data_fields::<K>(bytes) {
@@ -49,18 +48,17 @@ impl<'a, K: PointKind> DataView<'a, K> {
     pub fn count(&self) -> usize
         ensures { (ps : List Point) → Reads K.PointKind.kind self.now.bytes.now (data_view ps) → result ≡ length ps }
     {
-        self.bytes[1] as usize
+        usize::from(self.bytes[1])
     }
 
     // The point at a place, none past the last one.
     pub fn point(&self, place: usize) -> Option<K>
         ensures { (ps : List Point) → Reads K.PointKind.kind self.now.bytes.now (data_view ps) → PointAt K.PointKind.kind ps place result }
     {
-        let bytes = self.bytes;
-        if place >= bytes[1] as usize || place >= capacity::<K>() {
+        if place >= self.count() || place >= K::CAPACITY {
             return None;
         }
-        point_at::<K>(bytes, place)
+        point_at::<K>(self.bytes, place)
     }
 
     // Both corners of the points, by a loop over their codes; none where the codes do not strictly rise.
@@ -68,7 +66,25 @@ impl<'a, K: PointKind> DataView<'a, K> {
         ensures { (ps : List Point) → Reads K.PointKind.kind self.now.bytes.now (data_view ps) → Cornered K.PointKind.kind ps result }
     {
         let bytes = self.bytes;
-        corners_of::<K>(bytes)
+        let count = self.count();
+        if count > K::CAPACITY {
+            return None;
+        }
+        let first = point_at::<K>(bytes, 0)?;
+        let mut low = first;
+        let mut high = first;
+        let mut last = first.code();
+        for place in 1..count {
+            let point = point_at::<K>(bytes, place)?;
+            let code = point.code();
+            if code <= last {
+                return None;
+            }
+            last = code;
+            low = low.lower(&point);
+            high = high.upper(&point);
+        }
+        Some((low, high))
     }
 
     // Whether a point is on the page, by its code.
@@ -77,88 +93,47 @@ impl<'a, K: PointKind> DataView<'a, K> {
         ensures { (ps : List Point) → Reads K.PointKind.kind self.now.bytes.now (data_view ps) → Held K.PointKind.kind ps p.now result }
     {
         let bytes = self.bytes;
-        holds_point::<K>(bytes, p)
+        let count = self.count();
+        if count > K::CAPACITY {
+            return false;
+        }
+        let sought = p.code();
+        for place in 0..count {
+            let Some(point) = point_at::<K>(bytes, place) else {
+                return false;
+            };
+            let code = point.code();
+            if code >= sought {
+                return code == sought;
+            }
+        }
+        false
     }
 }
 
 // The point at a place of a data page, shown as a part of its bytes; none where these are the bytes of no point on the axes.
-fn point_at<K: PointKind>(bytes: &[u8], place: usize) -> Option<K>
-    requires whole { length bytes.now ≡ 64 }
-    requires below { place < K.PointKind.kind.capacity }
+fn point_at<K: PointKind>(bytes: &[u8; 64], place: usize) -> Option<K>
+    requires { place < K.PointKind.kind.capacity }
     ensures { PointRead K.PointKind.kind (take (size_of K.PointKind.kind) (drop (place * size_of K.PointKind.kind) (drop 2 bytes.now))) result }
 {
-    let size = size::<K>();
+    let size = K::SIZE;
     let at = 2 + place * size;
     K::read(&bytes[at..at + size])
 }
 
 // Whether the fields of a data page are right, given that its kind is.
-pub(crate) fn data_fields<K: PointKind>(bytes: &[u8]) -> bool
-    requires whole { length bytes.now ≡ 64 }
-    requires kind { slice_index bytes.now 0 ≡ K.PointKind.kind.data_kind }
+pub(crate) fn data_fields<K: PointKind>(bytes: &[u8; 64]) -> bool
+    requires { slice_index bytes.now 0 ≡ K.PointKind.kind.data_kind }
     ensures { DataRead K.PointKind.kind bytes.now result }
 {
-    let count = bytes[1] as usize;
-    if count < 1 || count > capacity::<K>() {
+    let count = usize::from(bytes[1]);
+    if count < 1 || count > K::CAPACITY {
         return false;
     }
-    for i in 0..count {
-        let Some(_point) = point_at::<K>(bytes, i) else {
+    for place in 0..count {
+        let Some(_point) = point_at::<K>(bytes, place) else {
             return false;
         };
     }
-    zeros(&bytes[2 + count * size::<K>()..])
-}
-
-// Both corners of the points of a data page; none where their codes do not strictly rise.
-fn corners_of<K: PointKind>(bytes: &[u8]) -> Option<(K, K)>
-    requires { length bytes.now ≡ 64 }
-    ensures { (ps : List Point) → Reads K.PointKind.kind bytes.now (data_view ps) → Cornered K.PointKind.kind ps result }
-{
-    let count = bytes[1] as usize;
-    if count > capacity::<K>() {
-        return None;
-    }
-    let Some(first) = point_at::<K>(bytes, 0) else {
-        return None;
-    };
-    let mut low = first;
-    let mut high = first;
-    let mut last = first.code();
-    for i in 1..count {
-        let Some(point) = point_at::<K>(bytes, i) else {
-            return None;
-        };
-        let code = point.code();
-        if code <= last {
-            return None;
-        }
-        last = code;
-        low = low.lower(&point);
-        high = high.upper(&point);
-    }
-    Some((low, high))
-}
-
-// Whether a point is among the points of a data page, whose codes strictly rise.
-fn holds_point<K: PointKind>(bytes: &[u8], p: &K) -> bool
-    requires whole { length bytes.now ≡ 64 }
-    requires on { On K.PointKind.kind p.now }
-    ensures { (ps : List Point) → Reads K.PointKind.kind bytes.now (data_view ps) → Held K.PointKind.kind ps p.now result }
-{
-    let count = bytes[1] as usize;
-    if count > capacity::<K>() {
-        return false;
-    }
-    let sought = p.code();
-    for i in 0..count {
-        let Some(point) = point_at::<K>(bytes, i) else {
-            return false;
-        };
-        let code = point.code();
-        if code >= sought {
-            return code == sought;
-        }
-    }
-    false
+    zeros(&bytes[2 + count * K::SIZE..])
 }

@@ -7,17 +7,16 @@ ghost use Rattle.page.specs.Checks.{summary, root_summary};
 ghost use Rattle.page.specs.Adds.{Adds};
 
 use crate::directory_page::Fork;
-use crate::entry::Entry;
+use crate::entry::{Entry, entry_size};
 use crate::head_page::Head;
 use kinds::kind::PointKind;
-use kinds::points::{data_kind, directory_kind, head_kind, size};
 
 // A free page: the number of the next free page, 0 for the last.
 pub fn free_page<K: PointKind>(next: u16) -> [u8; 64]
     ensures { result ≡ encode K.PointKind.kind (free_view next) }
 {
     let mut page = [0; 64];
-    put_two(&mut page, 1, next);
+    put_bytes(&mut page, 1, &next.to_le_bytes());
     page
 }
 
@@ -26,10 +25,9 @@ pub fn directory_page<K: PointKind>(depth: u8, low: &Entry<K>, high: &Entry<K>) 
     ensures { result ≡ encode K.PointKind.kind (directory_view depth (summary K.PointKind.kind low.now) (summary K.PointKind.kind high.now)) }
 {
     let mut page = [0; 64];
-    put_byte(&mut page, 0, directory_kind::<K>());
-    put_byte(&mut page, 1, depth);
+    put_bytes(&mut page, 0, &[K::DIRECTORY_PAGE, depth]);
     put_entry(&mut page, 2, low);
-    put_entry(&mut page, 2 + (6 + 2 * size::<K>()), high);
+    put_entry(&mut page, 2 + entry_size::<K>(), high);
     page
 }
 
@@ -38,9 +36,9 @@ pub fn head_page<K: PointKind>(head: &Head<K>) -> [u8; 64]
     ensures { result ≡ encode K.PointKind.kind (head_view head.now.first head.now.free (root_summary K.PointKind.kind head.now.root)) }
 {
     let mut page = [0; 64];
-    put_byte(&mut page, 0, head_kind::<K>());
-    put_two(&mut page, 1, head.first);
-    put_two(&mut page, 3, head.free);
+    put_bytes(&mut page, 0, &[K::HEAD_PAGE]);
+    put_bytes(&mut page, 1, &head.first.to_le_bytes());
+    put_bytes(&mut page, 3, &head.free.to_le_bytes());
     if let Some(root) = &head.root {
         put_entry(&mut page, 5, root);
     }
@@ -53,62 +51,40 @@ pub fn data_page<K: PointKind>(points: &[K]) -> [u8; 64]
     ensures { result ≡ encode K.PointKind.kind (data_view (map K.PointKind.kind.coords points.now)) }
 {
     let mut page = [0; 64];
-    put_byte(&mut page, 0, data_kind::<K>());
-    put_byte(&mut page, 1, points.len() as u8);
-    let size = size::<K>();
-    for i in 0..points.len() {
-        put_point(&mut page, 2 + i * size, &points[i]);
+    put_bytes(&mut page, 0, &[K::DATA_PAGE, points.len() as u8]);
+    for (i, point) in points.iter().enumerate() {
+        put_point(&mut page, 2 + i * K::SIZE, point);
     }
     page
 }
 
-// One byte behind those before `at`.
-fn put_byte(page: &mut [u8], at: usize, byte: u8)
-    requires whole { length page.old ≡ 64 }
-    requires room { at + 1 ≤ 64 }
-    ensures { Adds page.old at (byte ∷ []) page.new }
+// Some bytes behind those before `at`.
+fn put_bytes(page: &mut [u8; 64], at: usize, bytes: &[u8])
+    requires { at + length bytes.now ≤ 64 }
+    ensures { Adds page.old at bytes.now page.new }
 {
-    page[at] = byte;
-}
-
-// A number in two bytes behind those before `at`.
-fn put_two(page: &mut [u8], at: usize, number: u16)
-    requires whole { length page.old ≡ 64 }
-    requires room { at + 2 ≤ 64 }
-    ensures { Adds page.old at (bytes 2 number) page.new }
-{
-    page[at..at + 2].copy_from_slice(&number.to_le_bytes());
-}
-
-// A number in four bytes behind those before `at`.
-fn put_four(page: &mut [u8], at: usize, number: u32)
-    requires whole { length page.old ≡ 64 }
-    requires room { at + 4 ≤ 64 }
-    ensures { Adds page.old at (bytes 4 number) page.new }
-{
-    page[at..at + 4].copy_from_slice(&number.to_le_bytes());
+    let end = at + bytes.len();
+    page[at..end].copy_from_slice(bytes);
 }
 
 // A point behind the bytes before `at`.
-fn put_point<K: PointKind>(page: &mut [u8], at: usize, point: &K)
-    requires whole { length page.old ≡ 64 }
-    requires room { at + size_of K.PointKind.kind ≤ 64 }
+fn put_point<K: PointKind>(page: &mut [u8; 64], at: usize, point: &K)
+    requires { at + size_of K.PointKind.kind ≤ 64 }
     ensures adds { Adds page.old at (bytes_of K.PointKind.kind point.now) page.new }
     ensures long { length (bytes_of K.PointKind.kind point.now) ≡ size_of K.PointKind.kind }
 {
-    let end = at + size::<K>();
+    let end = at + K::SIZE;
     point.write(&mut page[at..end]);
 }
 
 // An entry behind the bytes before `at`.
-fn put_entry<K: PointKind>(page: &mut [u8], at: usize, entry: &Entry<K>)
-    requires whole { length page.old ≡ 64 }
-    requires room { at + entry_length K.PointKind.kind ≤ 64 }
+fn put_entry<K: PointKind>(page: &mut [u8; 64], at: usize, entry: &Entry<K>)
+    requires { at + entry_length K.PointKind.kind ≤ 64 }
     ensures adds { Adds page.old at (entry_bytes K.PointKind.kind (summary K.PointKind.kind entry.now)) page.new }
     ensures long { length (entry_bytes K.PointKind.kind (summary K.PointKind.kind entry.now)) ≡ entry_length K.PointKind.kind }
 {
-    put_two(page, at, entry.page);
-    put_four(page, at + 2, entry.count);
+    put_bytes(page, at, &entry.page.to_le_bytes());
+    put_bytes(page, at + 2, &entry.count.to_le_bytes());
     put_point(page, at + 6, &entry.low);
-    put_point(page, at + 6 + size::<K>(), &entry.high);
+    put_point(page, at + 6 + K::SIZE, &entry.high);
 }

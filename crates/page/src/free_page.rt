@@ -15,16 +15,12 @@ pub fn next_free<K: PointKind>(page: usize, bytes: &[u8; 64]) -> Result<u16, Pag
     if bytes[0] != 0 {
         return Err(PageFault::Kind(page));
     }
-    match free_fields::<K>(bytes) {
-        Some(next) => Ok(next),
-        None => Err(PageFault::Field(page)),
-    }
+    free_fields::<K>(bytes).ok_or(PageFault::Field(page))
 }
 
 // The next free page, given that the kind of the bytes is that of a free page; none where a byte that must be zero is not.
-fn free_fields<K: PointKind>(bytes: &[u8]) -> Option<u16>
-    requires whole { length bytes.now ≡ 64 }
-    requires kind { slice_index bytes.now 0 ≡ 0 }
+fn free_fields<K: PointKind>(bytes: &[u8; 64]) -> Option<u16>
+    requires { slice_index bytes.now 0 ≡ 0 }
     ensures { FreeRead K.PointKind.kind bytes.now result }
 {
     if !zeros(&bytes[3..]) {

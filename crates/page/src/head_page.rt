@@ -4,12 +4,11 @@ ghost use Rattle.kinds.specs.Kind.{entry_length};
 ghost use Rattle.kinds.specs.Bytes.{bytes};
 ghost use Rattle.page.specs.Checks.{Checked, IsHead, HeadRead, RootShown, InHead, RootIs};
 
-use crate::entry::{Entry, EntryView};
+use crate::entry::{Entry, EntryView, entry_size};
 use crate::fault::PageFault;
 use crate::numbers::two_bytes;
 use crate::zeros::zeros;
 use kinds::kind::PointKind;
-use kinds::points::{head_kind, size};
 use std::marker::PhantomData;
 
 // The head as a value: the first free page, 0 if none, how many pages are free, and the root entry, none in an empty draft.
@@ -32,16 +31,16 @@ impl<'a, K: PointKind> HeadView<'a, K> {
     pub fn new(page: usize, bytes: &'a [u8; 64]) -> Result<HeadView<'a, K>, PageFault>
         ensures { Checked K.PointKind.kind page (K.PointKind.kind.head_kind ∷ []) bytes.now (λ v. (v.bytes.now ≡ bytes.now) × IsHead K.PointKind.kind bytes.now) result }
     {
-        if bytes[0] != head_kind::<K>() {
+        if bytes[0] != K::HEAD_PAGE {
             return Err(PageFault::Kind(page));
         }
-        let Some(_head) = head_fields::<K>(bytes) else {
-            return Err(PageFault::Field(page));
-        };
-        Ok(HeadView {
-            bytes,
-            points: PhantomData,
-        })
+        match head_fields::<K>(bytes) {
+            Some(_head) => Ok(HeadView {
+                bytes,
+                points: PhantomData,
+            }),
+            None => Err(PageFault::Field(page)),
+        }
     }
 
     // The first free page, 0 if none.
@@ -67,11 +66,10 @@ impl<'a, K: PointKind> HeadView<'a, K> {
     // The root entry, none where it is all zero bytes.
     pub fn root(&self) -> Option<EntryView<'a, K>>
         ensures part { RootShown (take (entry_length K.PointKind.kind) (drop 5 self.now.bytes.now)) (λ v. v.bytes.now) result }
-        ensures whole { IfSome result (λ v. length v.bytes.now ≡ entry_length K.PointKind.kind) }
         ensures view { InHead K.PointKind.kind self.now.bytes.now (λ first free root. RootIs K.PointKind.kind (λ v. v.bytes.now) root result) }
     {
         let bytes = self.bytes;
-        let end = 5 + (6 + 2 * size::<K>());
+        let end = 5 + entry_size::<K>();
         let part = &bytes[5..end];
         if zeros(part) {
             return None;
@@ -81,28 +79,25 @@ impl<'a, K: PointKind> HeadView<'a, K> {
 }
 
 // The head with these bytes, given that their kind is; none where a field is wrong.
-pub(crate) fn head_fields<K: PointKind>(bytes: &[u8]) -> Option<Head<K>>
-    requires whole { length bytes.now ≡ 64 }
-    requires kind { slice_index bytes.now 0 ≡ K.PointKind.kind.head_kind }
+pub(crate) fn head_fields<K: PointKind>(bytes: &[u8; 64]) -> Option<Head<K>>
+    requires { slice_index bytes.now 0 ≡ K.PointKind.kind.head_kind }
     ensures { HeadRead K.PointKind.kind bytes.now result }
 {
     let first = u16::from_le_bytes([bytes[1], bytes[2]]);
     let free = u16::from_le_bytes([bytes[3], bytes[4]]);
-    let size = 6 + 2 * size::<K>();
+    let size = entry_size::<K>();
     if !zeros(&bytes[5 + size..]) {
         return None;
     }
-    let root = &bytes[5..5 + size];
-    if zeros(root) {
+    let part = &bytes[5..5 + size];
+    if zeros(part) {
         return Some(Head {
             first,
             free,
             root: None,
         });
     }
-    let Some(entry) = EntryView::<K>::over(root).read() else {
-        return None;
-    };
+    let entry = EntryView::<K>::over(part).read()?;
     Some(Head {
         first,
         free,
@@ -114,11 +109,8 @@ pub(crate) fn head_fields<K: PointKind>(bytes: &[u8]) -> Option<Head<K>>
 pub fn read_head<K: PointKind>(page: usize, bytes: &[u8; 64]) -> Result<Head<K>, PageFault>
     ensures { Checked K.PointKind.kind page (K.PointKind.kind.head_kind ∷ []) bytes.now (λ x. HeadRead K.PointKind.kind bytes.now (Some x)) result }
 {
-    if bytes[0] != head_kind::<K>() {
+    if bytes[0] != K::HEAD_PAGE {
         return Err(PageFault::Kind(page));
     }
-    match head_fields::<K>(bytes) {
-        Some(head) => Ok(head),
-        None => Err(PageFault::Field(page)),
-    }
+    head_fields::<K>(bytes).ok_or(PageFault::Field(page))
 }

@@ -6,7 +6,6 @@ use crate::data_page::data_fields;
 use crate::directory_page::{Fork, directory_fields};
 use crate::fault::PageFault;
 use kinds::kind::PointKind;
-use kinds::points::{data_kind, directory_kind};
 
 // A page of the tree: a data page, whose points stay on the page, or a directory page.
 #[derive(Clone, Copy)]
@@ -19,13 +18,13 @@ pub enum Node<K> {
 pub fn read_node<K: PointKind>(page: usize, bytes: &[u8; 64]) -> Result<Node<K>, PageFault>
     ensures { Checked K.PointKind.kind page (K.PointKind.kind.data_kind ∷ (K.PointKind.kind.directory_kind ∷ [])) bytes.now (NodeRead K.PointKind.kind bytes.now) result }
 {
-    if bytes[0] == data_kind::<K>() {
+    if bytes[0] == K::DATA_PAGE {
         if data_fields::<K>(bytes) {
             return Ok(Node::Data);
         }
         return Err(PageFault::Field(page));
     }
-    if bytes[0] != directory_kind::<K>() {
+    if bytes[0] != K::DIRECTORY_PAGE {
         return Err(PageFault::Kind(page));
     }
     match directory_fields::<K>(bytes) {

@@ -6,10 +6,5 @@ ghost use Rattle.kinds.specs.Kind.{Whether};
 pub(crate) fn zeros(bytes: &[u8]) -> bool
     ensures { Whether result (bytes.now ≡ replicate (length bytes.now) 0) }
 {
-    for b in bytes {
-        if *b != 0 {
-            return false;
-        }
-    }
-    true
+    bytes.iter().all(|b| *b == 0)
 }

@@ -5,7 +5,7 @@ use Rattle.kinds.specs.Bytes.{form, size}
 use Rattle.page.specs.Form.{Point}
 use Rattle.page.proofs.data_page.data_fields.Given as goal
 
-abbrev pub invariant-loop-i : goal.invariant-loop-i
-invariant-loop-i g l =
-    (ps : List Point) × (length ps ≡ l.i) × AllByRecursion (OnAxes g.K.PointKind.kind.axes) ps
-    × (flat_map (form g.K.PointKind.kind.axes) ps ≡ take (l.i * size g.K.PointKind.kind.axes) (drop 2 l.bytes))
+abbrev pub invariant-loop-place : goal.invariant-loop-place
+invariant-loop-place g l =
+    (ps : List Point) × (length ps ≡ l.place) × AllByRecursion (OnAxes g.K.PointKind.kind.axes) ps
+    × (flat_map (form g.K.PointKind.kind.axes) ps ≡ take (l.place * size g.K.PointKind.kind.axes) (drop 2 l.bytes))

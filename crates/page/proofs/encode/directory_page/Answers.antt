@@ -7,13 +7,12 @@ pub returns : goal.returns
 unfolding encode
 returns g c =
     let k = g.K.PointKind.kind in
-    let d = c.directory_kind.result in
+    let d = c.DIRECTORY_PAGE.result in
     let L = entry_bytes k (summary k c.args.low.now) in
     let H = entry_bytes k (summary k c.args.high.now) in
-    let s = c.size.ensures in
+    let s = c.entry_size.ensures in
     let l = c.put_entry.ensures.long in
-    let x1 = c.put_byte.ensures [] refl refl in
-    let x2 = c.put_byte-2.ensures (d ∷ []) refl x1 in
+    let x2 = c.put_bytes.ensures [] refl refl in
     let x3 = c.put_entry.ensures.adds (d ∷ (c.args.depth ∷ [])) refl x2 in
     let x4 = c.put_entry-2.ensures.adds (d ∷ (c.args.depth ∷ L)) (omega arith) x3 in
-    x4 ∙ ap (λ x. padded (x ∷ (c.args.depth ∷ (L ++ H)))) c.directory_kind.ensures
+    x4 ∙ ap (λ x. padded (x ∷ (c.args.depth ∷ (L ++ H)))) (c.DIRECTORY_PAGE.ensures ∙ g.met.K.PointKind.constants.4)

@@ -1,9 +1,10 @@
-use Rattle.std.proofs.Common.{arith}
-use Rattle.page.proofs.Runs.{zeros_from, zeros_all}
+use Rattle.std.proofs.Common.{◌≡◌, ◌≢◌, rules}
+use Rattle.std.proofs.lemmas.Iterator.{cases_from_all, YieldsList-from_slice}
+use borrow.Author.Tests.{tests}
+use Rattle.page.proofs.Runs.{zeros_told}
 use Rattle.page.proofs.zeros.zeros.Goals as goal
 
-pub returns-then-b-ne0 : goal.returns-then-b-ne0
-returns-then-b-ne0 c e = let z = zeros_all c.args.bytes.now c.loop-b.b-index e in c.if-b-ne0.true z
-
 pub returns : goal.returns
-returns c = zeros_from c.args.bytes.now (λ q lt. c.loop-b.invariant q (omega arith))
+returns c =
+    let t = cases_from_all _ _ _ (λ x. x ≡ 0) (λ x. x ≢ 0) c.all.ensures.ran (YieldsList-from_slice c.args.bytes.now cc) (λ x q k. search (rules, tests)) (λ x q k. search (rules, tests)) in
+    zeros_told c.args.bytes.now c.all.result t

@@ -9,12 +9,11 @@ pub returns : goal.returns
 returns g c =
     let k = g.K.PointKind.kind in
     let bs = c.args.self.now.bytes.now in
-    let z = 6 + 2 * c.size.result in
-    let e : 6 + 2 * c.size.result ≡ entry_length k = omega (arith, c.size.ensures) in
+    let z = c.entry_size-size.result in
+    let e = c.entry_size-size.ensures in
     let long : ((2 + z) + z) - (2 + z) ≡ z = omega arith in
     let part = c.over.ensures ∙ ap (λ n. take n (drop (2 + z) bs)) long ∙ ap (λ n. take n (drop (2 + n) bs)) e in
     record {
       part = part;
-      whole = ap length part ∙ part_size (2 + entry_length k) (entry_length k) bs (omega (arith, g.met.K.PointKind.sound.directory_fits));
       view = λ n l h r. part ∙ ap (take (entry_length k)) (drop_plus 2 (entry_length k) bs) ∙ sym (high_is k bs (entry_length k) refl (record { depth = n; low_entry = l; high_entry = h; reads = r }));
     }

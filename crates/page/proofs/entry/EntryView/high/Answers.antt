@@ -1,4 +1,4 @@
-use Rattle.std.proofs.Common.{drop}
+use Rattle.std.proofs.Common.{◌∙◌, drop}
 use Rattle.kinds.specs.Kind.{size_of}
 use Rattle.page.proofs.Parts.{high_part, point_read, parts, corner_is}
 use Rattle.page.proofs.entry.EntryView.high.Goals as goal
@@ -7,5 +7,5 @@ pub returns : goal.returns
 returns g c =
     let k = g.K.PointKind.kind in
     let bs = c.args.self.now.bytes.now in
-    let reads = point_read k g.met.K.PointKind.sound _ (drop (size_of k) (drop 6 bs)) c.read.result (high_part bs c.size-start.result (size_of k) c.size-start.ensures) c.read.ensures.back c.read.ensures.only in
+    let reads = point_read k g.met.K.PointKind.sound _ (drop (size_of k) (drop 6 bs)) c.read.result (high_part bs c.SIZE-start.result (size_of k) (c.SIZE-start.ensures ∙ g.met.K.PointKind.constants.2)) c.read.ensures.back c.read.ensures.only in
     record { reads = reads; entry = λ e t. corner_is k g.met.K.PointKind.sound e.high (drop (size_of k) (drop 6 bs)) c.read.result reads t.0.high_on (parts k bs e t.0 t.2).1 }

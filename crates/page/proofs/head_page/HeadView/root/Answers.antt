@@ -8,19 +8,19 @@ pub returns-then-zeros : goal.returns-then-zeros
 returns-then-zeros g c =
     let k = g.K.PointKind.kind in
     let bs = c.args.self.now.bytes.now in
-    let z = 6 + 2 * c.size.result in
-    let e : 6 + 2 * c.size.result ≡ entry_length k = omega (arith, c.size.ensures) in
+    let z = c.entry_size-end.result in
+    let e = c.entry_size-end.ensures in
     let cut = cut_root bs z ∙ ap (λ n. take n (drop 5 bs)) e in
     let part = subst AllZero cut c.if-zeros.ensures in
-    record { part = part; whole = tt; view = root_agrees k bs _ _ part }
+    record { part = part; view = root_agrees k bs _ _ part }
 
 pub returns : goal.returns
 returns g c =
     let k = g.K.PointKind.kind in
     let bs = c.args.self.now.bytes.now in
-    let z = 6 + 2 * c.size.result in
-    let e : 6 + 2 * c.size.result ≡ entry_length k = omega (arith, c.size.ensures) in
+    let z = c.entry_size-end.result in
+    let e = c.entry_size-end.ensures in
     let cut = cut_root bs z ∙ ap (λ n. take n (drop 5 bs)) e in
     let same = c.over.ensures ∙ cut in
     let some = subst (λ x. AllZero x → ⊥) cut c.if-zeros.ensures in
-    record { part = (same, some); whole = ap length same ∙ part_size 5 (entry_length k) bs (omega (arith, g.met.K.PointKind.sound.directory_fits)); view = root_agrees k bs _ _ (same, some) }
+    record { part = (same, some); view = root_agrees k bs _ _ (same, some) }
