@@ -1,10 +1,18 @@
-// Whole pages of a card: loading and writing them.
+// Whole pages of a card: loading, reading and writing them.
 #![tactic(auto)]
 
-ghost use Rattle.std.specs.Prelude.{◌≡◌, ℕ, ◌<◌, length, MatchResult, slice_set};
+ghost use Rattle.std.specs.Prelude.{◌≡◌, ℕ, ◌<◌, List, length, Some, MatchResult, slice_set};
 ghost use Rattle.refusal.specs.Numbers.{number};
-ghost use Rattle.tree.specs.Lawful.{page as page_of};
+ghost use Rattle.page.specs.Checks.{HeadRead, NodeRead};
+ghost use Rattle.page.specs.Fields.{Reads};
+ghost use Rattle.tree.specs.Laid.{Laid};
+ghost use Rattle.tree.specs.Lawful.{Lawful, page as page_of};
+ghost use Rattle.tree.specs.Standing.{view_of};
+ghost use Rattle.access.specs.Loading.{HeadOf};
 
+use kinds::kind::PointKind;
+use page::head_page::{Head, read_head};
+use page::tree_page::{Node, read_node};
 use refusal::Refusal;
 use store::page_store::PageStore;
 
@@ -18,6 +26,30 @@ pub fn load<S: PageStore>(store: &mut S, page: usize) -> Result<[u8; 64], Refusa
         Ok(()) => Ok(bytes),
         Err(_) => Err(Refusal::Damaged),
     }
+}
+
+// The head of a card, which a lawful card has. 9 where page 0 is no head.
+pub fn load_head<K: PointKind, S: PageStore>(store: &mut S) -> Result<Head<K>, Refusal>
+    ensures reads { MatchResult result (λ head. (0 < length (S.PageStore.pages store.old)) × HeadRead K.PointKind.kind (page_of (S.PageStore.pages store.old) 0) (Some head)) (λ e. number e ≡ 9) }
+    ensures lawful { (set : List K) (w : Lawful K.PointKind.kind (S.PageStore.pages store.old) set) → MatchResult result (HeadOf K.PointKind.kind (S.PageStore.pages store.old) set w) (λ e. ⊥) }
+    ensures keeps { S.PageStore.pages store.new ≡ S.PageStore.pages store.old }
+{
+    let bytes = load(store, 0)?;
+    Ok(read_head::<K>(0, &bytes)?)
+}
+
+// A page of the tree, with its bytes. 9 where it is none; a page that shows a part of the tree is one.
+pub fn load_node<K: PointKind, S: PageStore>(
+    store: &mut S,
+    page: u16,
+) -> Result<([u8; 64], Node<K>), Refusal>
+    ensures reads { MatchResult result (λ x. (page < length (S.PageStore.pages store.old)) × (x.0 ≡ page_of (S.PageStore.pages store.old) page) × NodeRead K.PointKind.kind x.0 x.1) (λ e. number e ≡ 9) }
+    ensures shown { (t : Laid K) → page < length (S.PageStore.pages store.old) → Reads K.PointKind.kind (page_of (S.PageStore.pages store.old) page) (view_of K.PointKind.kind t) → MatchResult result (λ x. Unit {0}) (λ e. ⊥) }
+    ensures keeps { S.PageStore.pages store.new ≡ S.PageStore.pages store.old }
+{
+    let bytes = load(store, usize::from(page))?;
+    let node = read_node::<K>(usize::from(page), &bytes)?;
+    Ok((bytes, node))
 }
 
 // Writes a page that the store has.

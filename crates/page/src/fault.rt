@@ -2,7 +2,9 @@
 ghost use Rattle.std.specs.Prelude.{◌≡◌, Some};
 ghost use Rattle.page.specs.declared.fault.PageFault.TheVariants.{Store};
 ghost use Rattle.page.specs.Words.{fault_text};
+ghost use Rattle.refusal.specs.declared.Refusal.TheVariants.{Damaged};
 
+use refusal::Refusal;
 use std::fmt;
 use store::fault::StoreFault;
 
@@ -22,6 +24,15 @@ impl From<StoreFault> for PageFault {
 
     fn from(value: StoreFault) -> PageFault {
         PageFault::Store(value)
+    }
+}
+
+// A page that cannot be read makes the card a damaged one.
+impl From<PageFault> for Refusal {
+    ghost from_gives = { λ x y. y ≡ Damaged };
+
+    fn from(_: PageFault) -> Refusal {
+        Refusal::Damaged
     }
 }
 

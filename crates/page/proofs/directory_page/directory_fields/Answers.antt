@@ -18,7 +18,7 @@ returns-then-depth-BITS g c =
     let k = g.K.PointKind.kind in
     refused k g.met.K.PointKind.sound c.args.bytes.now (directory_cause c.requires (too_deep (omega (arith, c.from-depth.ensures, c.if-depth-BITS.true, c.BITS.ensures, g.met.K.PointKind.constants.0))))
 
-pub returns-in_err-low : goal.returns-in_default
+pub returns-in_err-low : goal.returns-in_err-low
 returns-in_err-low g c =
     let k = g.K.PointKind.kind in
     let bs = c.args.bytes.now in
