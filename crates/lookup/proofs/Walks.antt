@@ -57,6 +57,10 @@ module _ {P : Type 0} (k : Kind P) (s : Sound k) (card : Card) where
     pub turn_bytes : (now : Card) (bs : List ℕ) → now ≡ card → bs ≡ page now at → Reads k bs (view_of k w.tree)
     turn_bytes now bs same e = subst (λ x. Reads k x (view_of k w.tree)) (sym (e ∙ ap (λ c. page c at) same)) turn_reads
 
+    -- the page is there, and shows the tree
+    pub turn_stands : (now : Card) → now ≡ card → (at < length now) × Reads k (page now at) (view_of k w.tree)
+    turn_stands now same = (subst (λ c. at < length c) (sym same) turn_there, subst (λ c. Reads k (page c at) (view_of k w.tree)) (sym same) turn_reads)
+
     -- there are no more turns than bits
     pub turn_last : suc (wide k) ≤ turn → ⊥
     turn_last le = let f = w.few in omega arith

@@ -10,19 +10,17 @@ ghost use Rattle.tree.specs.Standing.{Standing};
 ghost use Rattle.tree.specs.Book.{Asks};
 ghost use Rattle.lookup.specs.Asking.{Leads, FoundOr9, AskAny};
 
-use access::load;
+use access::{load_head, load_node};
 use kinds::kind::PointKind;
-use kinds::points::{bit, bits, depth};
+use kinds::points::{bit, depth};
 use page::data_page::DataView;
 use page::directory_page::Fork;
-use page::entry::Entry;
-use page::head_page::read_head;
-use page::tree_page::{Node, read_node};
+use page::tree_page::Node;
 use refusal::Refusal;
 use store::page_store::PageStore;
 
 // Where the way of a point goes from a directory page; none where the point does not share its first bits.
-fn onward<K: PointKind>(fork: &Fork<K>, p: &K) -> Option<usize>
+fn onward<K: PointKind>(fork: &Fork<K>, p: &K) -> Option<u16>
     requires on { On K.PointKind.kind p.now }
     requires corner_on { On K.PointKind.kind fork.now.low.low }
     requires shallow { fork.now.depth < wide K.PointKind.kind }
@@ -32,9 +30,9 @@ fn onward<K: PointKind>(fork: &Fork<K>, p: &K) -> Option<usize>
         return None;
     }
     if bit(p, fork.depth) == 0 {
-        Some(fork.low.page as usize)
+        Some(fork.low.page)
     } else {
-        Some(fork.high.page as usize)
+        Some(fork.high.page)
     }
 }
 
@@ -45,14 +43,9 @@ fn walk<K: PointKind, S: PageStore>(store: &mut S, start: u16, p: &K) -> Result<
     ensures always { FoundOr9 result }
     ensures keeps { S.PageStore.pages store.new ≡ S.PageStore.pages store.old }
 {
-    let mut page = start as usize;
-    for _turn in 0..bits::<K>() + 1 {
-        let Ok(bytes) = load(store, page) else {
-            return Err(Refusal::Damaged);
-        };
-        let Ok(node) = read_node::<K>(page, &bytes) else {
-            return Err(Refusal::Damaged);
-        };
+    let mut page = start;
+    for _turn in 0..K::BITS + 1 {
+        let (bytes, node) = load_node::<K, S>(store, page)?;
         let Node::Directory(fork) = node else {
             return Ok(DataView::<K>::over(&bytes).holds(p));
         };
@@ -73,12 +66,7 @@ pub fn ask<K: PointKind, S: PageStore>(store: &mut S, p: &K) -> Result<bool, Ref
     if !p.on_axes() {
         return Err(Refusal::OffAxis);
     }
-    let Ok(bytes) = load(store, 0) else {
-        return Err(Refusal::Damaged);
-    };
-    let Ok(head) = read_head::<K>(0, &bytes) else {
-        return Err(Refusal::Damaged);
-    };
+    let head = load_head::<K, S>(store)?;
     let Some(root) = head.root else {
         return Ok(false);
     };

@@ -4,10 +4,8 @@ ghost use Rattle.tree.specs.Lawful.{Lawful};
 ghost use Rattle.lookup.specs.Tallying.{TallySays, TallyAny};
 
 use crate::counts::Tally;
-use access::load;
+use access::load_head;
 use kinds::kind::PointKind;
-use page::entry::Entry;
-use page::head_page::read_head;
 use refusal::Refusal;
 use store::page_store::PageStore;
 
@@ -17,22 +15,14 @@ pub fn tally<K: PointKind, S: PageStore>(store: &mut S) -> Result<Tally, Refusal
     ensures always { TallyAny result }
     ensures keeps { S.PageStore.pages store.new ≡ S.PageStore.pages store.old }
 {
-    let Ok(bytes) = load(store, 0) else {
-        return Err(Refusal::Damaged);
-    };
-    let Ok(head) = read_head::<K>(0, &bytes) else {
-        return Err(Refusal::Damaged);
-    };
+    let head = load_head::<K, S>(store)?;
     let count = store.count();
     let free_pages = u32::from(head.free);
-    if count > 65535 || count <= head.free as usize {
+    if count > 65535 || count <= usize::from(head.free) {
         return Err(Refusal::Damaged);
     }
     let tree_pages = count as u32 - 1 - free_pages;
-    let points = match head.root {
-        Some(root) => root.count,
-        None => 0,
-    };
+    let points = head.root.map_or(0, |root| root.count);
     Ok(Tally {
         points,
         data_pages: (tree_pages + 1) / 2,
