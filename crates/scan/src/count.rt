@@ -30,18 +30,14 @@ impl<K: PointKind> Gather<K> for Counter {
     }
 
     fn unread(&mut self, count: u32, places: usize) -> Result<bool, Refusal> {
-        let Some(total) = self.total.checked_add(count as usize) else {
-            return Err(Refusal::Damaged);
-        };
-        self.total = total;
+        let total = self.total.checked_add(count as usize);
+        self.total = total.ok_or(Refusal::Damaged)?;
         Ok(true)
     }
 
     fn point(&mut self, p: &K, buffer: &mut [K]) -> Result<(), Refusal> {
-        let Some(total) = self.total.checked_add(1) else {
-            return Err(Refusal::Damaged);
-        };
-        self.total = total;
+        let total = self.total.checked_add(1);
+        self.total = total.ok_or(Refusal::Damaged)?;
         Ok(())
     }
 }
@@ -55,13 +51,9 @@ pub fn count<K: PointKind, S: PageStore>(
     ensures always { WindowAny K.PointKind.kind window.now (λ n. Unit {0}) result }
     ensures keeps { S.PageStore.pages store.new ≡ S.PageStore.pages store.old }
 {
-    if let Err(why) = window.check() {
-        return Err(why);
-    }
+    window.check()?;
     let mut counter = Counter { total: 0 };
     let mut none: [K; 0] = [];
-    if let Err(why) = scan(store, window, &mut counter, &mut none) {
-        return Err(why);
-    }
+    scan(store, window, &mut counter, &mut none)?;
     Ok(counter.total)
 }

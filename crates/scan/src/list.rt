@@ -33,9 +33,8 @@ impl<K: PointKind> Gather<K> for Lister {
     }
 
     fn unread(&mut self, count: u32, places: usize) -> Result<bool, Refusal> {
-        let Some(seen) = self.seen.checked_add(count as usize) else {
-            return Err(Refusal::Damaged);
-        };
+        let seen = self.seen.checked_add(count as usize);
+        let seen = seen.ok_or(Refusal::Damaged)?;
         if seen > self.skip && self.written < places {
             return Ok(false);
         }
@@ -45,9 +44,7 @@ impl<K: PointKind> Gather<K> for Lister {
 
     fn point(&mut self, p: &K, buffer: &mut [K]) -> Result<(), Refusal> {
         let at = self.written;
-        let Some(seen) = self.seen.checked_add(1) else {
-            return Err(Refusal::Damaged);
-        };
+        let seen = self.seen.checked_add(1).ok_or(Refusal::Damaged)?;
         if self.seen >= self.skip && at < buffer.len() {
             buffer[at] = *p;
             self.written = at + 1;
@@ -69,16 +66,12 @@ pub fn list<K: PointKind, S: PageStore>(
     ensures always { WindowAny K.PointKind.kind window.now (λ x. Unit {0}) result × ListAny K.PointKind.kind window.now skip buffer.old buffer.new result }
     ensures keeps { S.PageStore.pages store.new ≡ S.PageStore.pages store.old }
 {
-    if let Err(why) = window.check() {
-        return Err(why);
-    }
+    window.check()?;
     let mut lister = Lister {
         skip,
         seen: 0,
         written: 0,
     };
-    if let Err(why) = scan(store, window, &mut lister, buffer) {
-        return Err(why);
-    }
+    scan(store, window, &mut lister, buffer)?;
     Ok((lister.written, lister.seen))
 }

@@ -52,13 +52,9 @@ pub fn pick<K: PointKind, S: PageStore>(
     ensures always { WindowAny K.PointKind.kind window.now (InIt K.PointKind.kind window.now.low window.now.high) result }
     ensures keeps { S.PageStore.pages store.new ≡ S.PageStore.pages store.old }
 {
-    if let Err(why) = window.check() {
-        return Err(why);
-    }
+    window.check()?;
     let mut picker = Picker { found: None };
     let mut none: [K; 0] = [];
-    if let Err(why) = scan(store, window, &mut picker, &mut none) {
-        return Err(why);
-    }
+    scan(store, window, &mut picker, &mut none)?;
     Ok(picker.found)
 }

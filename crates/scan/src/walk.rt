@@ -1,22 +1,22 @@
 // The walk through a window: only pages whose entries meet it are read, each at most once.
 ghost use Rattle.std.specs.Prelude.{◌≡◌, ℕ, ◌+◌, ◌^◌, ◌<◌, ◌≤◌, List, [], ◌++◌, map, length, IfOk, IfErr, MatchBool, MatchResult, OnOk};
 ghost use Rattle.refusal.specs.Numbers.{number};
-ghost use Rattle.page.specs.Checks.{IsData, summary};
+ghost use Rattle.page.specs.Checks.{IsData, NodeRead, summary};
 ghost use Rattle.page.specs.Fields.{Reads};
 ghost use Rattle.page.specs.Form.{data_view};
 ghost use Rattle.tree.specs.Book.{windowed};
 ghost use Rattle.tree.specs.Laid.{Laid, numbers};
 ghost use Rattle.tree.specs.Lawful.{Lawful, page as page_of};
+ghost use Rattle.tree.specs.Standing.{view_of};
 ghost use Rattle.query.specs.Windows.{Whole};
 ghost use Rattle.scan.specs.Walking.{Walked, Below};
 
 use crate::gather::Gather;
-use access::load;
+use access::{load_head, load_node};
 use kinds::kind::PointKind;
 use page::data_page::DataView;
 use page::entry::Entry;
-use page::head_page::read_head;
-use page::tree_page::{Node, read_node};
+use page::tree_page::Node;
 use query::window::Window;
 use refusal::Refusal;
 use store::page_store::PageStore;
@@ -41,9 +41,7 @@ fn gather_page<K: PointKind, G: Gather<K>>(
             return Err(Refusal::Damaged);
         };
         if window.holds(&p) {
-            let Ok(()) = gather.point(&p, buffer) else {
-                return Err(Refusal::Damaged);
-            };
+            gather.point(&p, buffer)?;
         }
     }
     Ok(())
@@ -71,16 +69,21 @@ fn passed<K: PointKind, G: Gather<K>>(
     Ok(false)
 }
 
-// The bytes of a page, for one of the reads that are left.
-fn spend<S: PageStore>(store: &mut S, page: u16, left: &mut usize) -> Result<[u8; 64], Refusal>
-    ensures gives { MatchResult result (λ bytes. (bytes ≡ page_of (S.PageStore.pages store.old) page) × (left.old ≡ left.new + 1)) (λ e. (number e ≡ 9) × (page < length (S.PageStore.pages store.old) → 1 ≤ left.old → ⊥)) }
+// A page of the tree with its bytes, for one of the reads that are left.
+fn spend<K: PointKind, S: PageStore>(
+    store: &mut S,
+    page: u16,
+    left: &mut usize,
+) -> Result<([u8; 64], Node<K>), Refusal>
+    ensures reads { MatchResult result (λ x. (x.0 ≡ page_of (S.PageStore.pages store.old) page) × NodeRead K.PointKind.kind x.0 x.1 × (left.old ≡ left.new + 1)) (λ e. number e ≡ 9) }
+    ensures shown { (t : Laid K) → page < length (S.PageStore.pages store.old) → Reads K.PointKind.kind (page_of (S.PageStore.pages store.old) page) (view_of K.PointKind.kind t) → 1 ≤ left.old → MatchResult result (λ x. Unit {0}) (λ e. ⊥) }
     ensures keeps { S.PageStore.pages store.new ≡ S.PageStore.pages store.old }
 {
     if *left == 0 {
         return Err(Refusal::Damaged);
     }
     *left -= 1;
-    load(store, page as usize)
+    load_node::<K, S>(store, page)
 }
 
 // The points of the window below an entry. The depth rises from page to page, and no more pages are read than are left, else 9.
@@ -100,18 +103,10 @@ pub(crate) fn walk<K: PointKind, S: PageStore, G: Gather<K>>(
     ensures same { G.Gather.passes gather.new ≡ G.Gather.passes gather.old }
     ensures keeps { S.PageStore.pages store.new ≡ S.PageStore.pages store.old }
 {
-    let Ok(skip) = passed(&entry, window, gather, buffer.len()) else {
-        return Err(Refusal::Damaged);
-    };
-    if skip {
+    if passed(&entry, window, gather, buffer.len())? {
         return Ok(());
     }
-    let Ok(bytes) = spend(store, entry.page, left) else {
-        return Err(Refusal::Damaged);
-    };
-    let Ok(node) = read_node::<K>(entry.page as usize, &bytes) else {
-        return Err(Refusal::Damaged);
-    };
+    let (bytes, node) = spend::<K, S>(store, entry.page, left)?;
     let Node::Directory(fork) = node else {
         return gather_page(&bytes, window, gather, buffer);
     };
@@ -119,9 +114,7 @@ pub(crate) fn walk<K: PointKind, S: PageStore, G: Gather<K>>(
         return Err(Refusal::Damaged);
     }
     let next = fork.depth + 1;
-    let Ok(()) = walk(store, fork.low, window, gather, buffer, next, left) else {
-        return Err(Refusal::Damaged);
-    };
+    walk(store, fork.low, window, gather, buffer, next, left)?;
     walk(store, fork.high, window, gather, buffer, next, left)
 }
 
@@ -139,12 +132,7 @@ pub(crate) fn scan<K: PointKind, S: PageStore, G: Gather<K>>(
     ensures same { G.Gather.passes gather.new ≡ G.Gather.passes gather.old }
     ensures keeps { S.PageStore.pages store.new ≡ S.PageStore.pages store.old }
 {
-    let Ok(bytes) = load(store, 0) else {
-        return Err(Refusal::Damaged);
-    };
-    let Ok(head) = read_head::<K>(0, &bytes) else {
-        return Err(Refusal::Damaged);
-    };
+    let head = load_head::<K, S>(store)?;
     let Some(root) = head.root else {
         return Ok(());
     };

@@ -1,25 +1,23 @@
-use Rattle.std.proofs.Common.{length, refl, subst, inl, inr}
+use Rattle.std.proofs.Common.{length, refl, sym, subst}
+use Rattle.std.proofs.lemmas.Result.{err_from_is_err_and}
 use Rattle.tree.specs.Book.{ListsFrom, windowed}
-use Rattle.scan.specs.Listing.{Listed, ListFair}
-use Rattle.scan.proofs.Answering.{refused_window, answered_window}
+use Rattle.scan.specs.Listing.{Listed, ListFair, ListBuffer}
+use Rattle.scan.proofs.Answering.{refused_exit, answered_window}
 use Rattle.scan.proofs.Listing.{listed_none, fair_none}
 use Rattle.scan.proofs.list.list.Goals as goal
 
 -- no window: the buffer is kept
-pub returns-in-Err : goal.returns-in-Err
-returns-in-Err g c = record {
-  lawful = λ set w. (refused_window g.K.PointKind.kind _ set c.args.window.now (ListsFrom c.args.skip (length c.args.buffer.now)) c.in-Err.why c.in-Err.ensures, refl);
-  always = (inl c.in-Err.ensures, inr refl);
-  keeps = refl;
-}
+pub returns-in_err-check-clause-lawful : goal.returns-in_err-check-clause-lawful
+returns-in_err-check-clause-lawful g c set w =
+    let k = g.K.PointKind.kind in
+    let exit = err_from_is_err_and c.from_residual.result c.from_residual.ensures.1 in (
+      refused_exit k _ set c.args.window.now (ListsFrom c.args.skip (length c.args.buffer.now)) c.from_residual.result c.in_err-check.field-0.0 exit.0 exit.1 exit.2 c.in_err-check.ensures,
+      subst (ListBuffer k set c.args.window.now.low c.args.window.now.high c.args.skip c.args.buffer.now c.args.buffer.now) (sym exit.1) refl,
+    )
 
 -- a damaged card
-pub returns-in-Err-scan : goal.returns-in-Err-scan
-returns-in-Err-scan g c = record {
-  lawful = λ set w. absurd (c.in-Err-scan.ensures.lawful set w c.args.buffer.now (listed_none c.args.skip c.args.buffer.now));
-  always = (inr (c.in_default.ensures, c.in-Err-scan.ensures.refused), inl c.in-Err-scan.ensures.refused);
-  keeps = c.scan.ensures.keeps;
-}
+pub returns-in_err-scan-clause-lawful : goal.returns-in_err-scan-clause-lawful
+returns-in_err-scan-clause-lawful g c set w = absurd (c.in_err-scan.ensures.lawful set w c.args.buffer.now (listed_none c.args.skip c.args.buffer.now))
 
 pub returns : goal.returns
 returns g c =
@@ -29,12 +27,12 @@ returns g c =
     record {
       lawful = λ set w.
           let v = subst (λ n. Listed n x.seen x.written c.args.buffer.now c.scan.new.buffer (windowed k c.args.window.now.low c.args.window.now.high set)) skip
-          (c.in_default-scan.ensures.lawful set w c.args.buffer.now (listed_none c.args.skip c.args.buffer.now)) in
-          (answered_window k _ set c.args.window.now (ListsFrom c.args.skip (length c.args.buffer.now)) _ c.in_default.ensures (v.given, v.all), v.shown);
+          (c.in_ok-scan.ensures.lawful set w c.args.buffer.now (listed_none c.args.skip c.args.buffer.now)) in
+          (answered_window k _ set c.args.window.now (ListsFrom c.args.skip (length c.args.buffer.now)) _ c.in_ok-check.ensures (v.given, v.all), v.shown);
       always = (
-        (c.in_default.ensures, tt),
+        (c.in_ok-check.ensures, tt),
         subst (λ n. ListFair k n x.seen x.written c.args.window.now.low c.args.window.now.high c.args.buffer.now c.scan.new.buffer) skip
-            (c.in_default-scan.ensures.always c.args.buffer.now (fair_none k c.args.skip c.args.window.now.low c.args.window.now.high c.args.buffer.now)),
+            (c.in_ok-scan.ensures.always c.args.buffer.now (fair_none k c.args.skip c.args.window.now.low c.args.window.now.high c.args.buffer.now)),
       );
       keeps = c.scan.ensures.keeps;
     }

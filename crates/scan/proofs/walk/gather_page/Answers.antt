@@ -5,7 +5,7 @@ use Rattle.page.proofs.Writing.{length_coords}
 use Rattle.tree.specs.Book.{windowed}
 use Rattle.scan.proofs.Pages.{point_on, point_here, step_in, step_out, step_few}
 use Rattle.scan.proofs.walk.gather_page.Goals as goal
-use Rattle.scan.proofs.walk.gather_page.Goals.{then-holds+in-Ok, else-holds}
+use Rattle.scan.proofs.walk.gather_page.Goals.{then-holds+in_ok-point, else-holds}
 
 -- what holds of some values holds of equal ones
 moved : {A B C : Type 0} (M : A → B → C → Type 0) {a a' : A} {b b' : B} {xs ys : C} → a' ≡ a → b' ≡ b → xs ≡ ys → M a b xs → M a' b' ys
@@ -27,21 +27,14 @@ returns-in_default g c =
     }
 
 -- a point of the window is never refused
-pub returns-in_default-point : goal.returns-in_default-point
-returns-in_default-point g c =
+pub returns-in_err-point-clause-lawful : goal.returns-in_err-point-clause-lawful
+returns-in_err-point-clause-lawful g c points rd before xs few met =
     let k = g.K.PointKind.kind in
-    let s = g.met.K.PointKind.sound in
     let w = c.args.window.now in
     let i = c.loop-i.i in
     let p = c.in-Some.p in
-    record {
-      lawful = λ points rd before xs few met.
-          let h = point_here k s points i p (c.in-Some.ensures (map k.coords points) (subst (λ x. Reads k x (data_view (map k.coords points))) (sym c.over-view.ensures) rd)) in
-          c.in_default-point.ensures.lawful before (xs ++ windowed k w.low w.high (take i points)) (step_few k s w c.requires.whole points i p h.0 h.1 c.if-holds.ensures xs few) (c.loop-i.invariant.0 points rd before xs few met);
-      always = λ before fair. tt;
-      refused = refl;
-      same = c.point-then-holds.ensures.same ∙ c.loop-i.invariant.2;
-    }
+    let h = point_here k g.met.K.PointKind.sound points i p (c.in-Some.ensures (map k.coords points) (subst (λ x. Reads k x (data_view (map k.coords points))) (sym c.over-view.ensures) rd)) in
+    absurd (c.in_err-point.ensures.lawful before (xs ++ windowed k w.low w.high (take i points)) (step_few k g.met.K.PointKind.sound w c.requires.whole points i p h.0 h.1 c.if-holds.ensures xs few) (c.loop-i.invariant.0 points rd before xs few met))
 
 pub loop-i-preserved : goal.loop-i-preserved
 loop-i-preserved g c =
@@ -56,17 +49,17 @@ loop-i-preserved g c =
           let h = point_here k s points i p (at (map k.coords points) rd) in
           let now = c.loop-i.invariant.0 points rd before xs few met in
           elim c.if-holds.branch [
-            | then-holds+in-Ok v ↦ moved (λ a b ys. g.G.Gather.met a before b ys) v.gather-is v.buffer-is (step_in k s w c.requires.whole points i p h.0 h.1 v.if-holds.ensures xs) (v.in-Ok.ensures.lawful before (xs ++ windowed k w.low w.high (take i points)) (step_few k s w c.requires.whole points i p h.0 h.1 v.if-holds.ensures xs few) now)
+            | then-holds+in_ok-point v ↦ moved (λ a b ys. g.G.Gather.met a before b ys) v.gather-is v.buffer-is (step_in k s w c.requires.whole points i p h.0 h.1 v.if-holds.ensures xs) (v.in_ok-point.ensures.lawful before (xs ++ windowed k w.low w.high (take i points)) (step_few k s w c.requires.whole points i p h.0 h.1 v.if-holds.ensures xs few) now)
             | else-holds v ↦ moved (λ a b ys. g.G.Gather.met a before b ys) v.gather-is v.buffer-is (step_out k s w c.requires.whole points i p h.0 h.1 on v.if-holds.ensures xs) now
           ]),
       (λ before fair.
           let now = c.loop-i.invariant.1 before fair in
           elim c.if-holds.branch [
-            | then-holds+in-Ok v ↦ moved (λ a b (ys : List Point). g.G.Gather.fair a w.low w.high before b) {ys = []} v.gather-is v.buffer-is refl (v.in-Ok.ensures.always w.low w.high before on v.if-holds.ensures now)
+            | then-holds+in_ok-point v ↦ moved (λ a b (ys : List Point). g.G.Gather.fair a w.low w.high before b) {ys = []} v.gather-is v.buffer-is refl (v.in_ok-point.ensures.always w.low w.high before on v.if-holds.ensures now)
             | else-holds v ↦ moved (λ a b (ys : List Point). g.G.Gather.fair a w.low w.high before b) {ys = []} v.gather-is v.buffer-is refl now
           ]),
       elim c.if-holds.branch [
-        | then-holds+in-Ok v ↦ ap g.G.Gather.passes v.gather-is ∙ v.point-then-holds.ensures.same ∙ c.loop-i.invariant.2
+        | then-holds+in_ok-point v ↦ ap g.G.Gather.passes v.gather-is ∙ v.point-then-holds.ensures.same ∙ c.loop-i.invariant.2
         | else-holds v ↦ ap g.G.Gather.passes v.gather-is ∙ c.loop-i.invariant.2
       ],
     )

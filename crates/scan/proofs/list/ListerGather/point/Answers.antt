@@ -4,35 +4,26 @@ use Rattle.scan.proofs.Listing.{listed_pass, listed_put, fair_pass, fair_put}
 use Rattle.scan.proofs.list.ListerGather.point.Goals as goal
 use Rattle.scan.proofs.list.ListerGather.point.Goals.{then-self+then-at-buffer, else-self, else-self-via-then-self+else-at-buffer, else-self-via-else-self}
 
--- the sum does not overflow on a lawful card
-pub returns-in_default : goal.returns-in_default
-returns-in_default g c = record {
-  lawful = λ before xs few v. let n = length-append xs (c.args.p.now ∷ []) in let a = v.all in c.in_default.ensures (omega arith);
-  always = λ low high before on inside fair. tt;
-  refused = refl;
-  same = refl;
-}
-
 pub returns : goal.returns
 returns g c =
     let k = g.K.PointKind.kind in
     let self = c.args.self.now in
     let buffer = c.args.buffer.now in
     let p = c.args.p.now in
-    let e = c.in-Some.ensures.1 in
+    let m = rw c.in_ok-seen.ensures.ok_part at c.checked_add.ensures in let e = m.1 in
     record {
       lawful = λ before xs few v.
           let n = length-append xs (p ∷ []) in
           let a = v.all in
           elim c.if-self.branch [
             | then-self+then-at-buffer w ↦
-                subst (λ x. Listed x.skip c.in-Some.seen x.written before c.if-self.buffer (xs ++ p ∷ [])) (sym w.self-is)
-                (subst (λ b. Listed self.skip c.in-Some.seen (self.written + 1) before b (xs ++ p ∷ [])) (sym w.buffer-is)
-                (listed_put before buffer xs self.skip self.seen self.written v p c.in-Some.seen e w.if-self.true w.if-at-buffer.true))
+                subst (λ x. Listed x.skip c.in_ok-seen.seen x.written before c.if-self.buffer (xs ++ p ∷ [])) (sym w.self-is)
+                (subst (λ b. Listed self.skip c.in_ok-seen.seen (self.written + 1) before b (xs ++ p ∷ [])) (sym w.buffer-is)
+                (listed_put before buffer xs self.skip self.seen self.written v p c.in_ok-seen.seen e w.if-self.true w.if-at-buffer.true))
             | else-self w ↦
-                subst (λ x. Listed x.skip c.in-Some.seen x.written before c.if-self.buffer (xs ++ p ∷ [])) (sym w.self-is)
-                (subst (λ b. Listed self.skip c.in-Some.seen self.written before b (xs ++ p ∷ [])) (sym w.buffer-is)
-                (listed_pass before buffer xs self.skip self.seen self.written v (p ∷ []) c.in-Some.seen (omega arith)
+                subst (λ x. Listed x.skip c.in_ok-seen.seen x.written before c.if-self.buffer (xs ++ p ∷ [])) (sym w.self-is)
+                (subst (λ b. Listed self.skip c.in_ok-seen.seen self.written before b (xs ++ p ∷ [])) (sym w.buffer-is)
+                (listed_pass before buffer xs self.skip self.seen self.written v (p ∷ []) c.in_ok-seen.seen (omega arith)
                 (elim w.else-self.branch [
                   | else-self-via-then-self+else-at-buffer w' ↦ inr w'.if-at-buffer.false
                   | else-self-via-else-self w' ↦ inl (omega (arith, w'.if-self.false))
@@ -41,13 +32,13 @@ returns g c =
       always = λ low high before on inside fair.
           elim c.if-self.branch [
             | then-self+then-at-buffer w ↦
-                subst (λ x. ListFair k x.skip c.in-Some.seen x.written low high before c.if-self.buffer) (sym w.self-is)
-                (subst (λ b. ListFair k self.skip c.in-Some.seen (self.written + 1) low high before b) (sym w.buffer-is)
-                (fair_put k self.skip self.seen self.written low high before buffer fair p c.in-Some.seen e w.if-self.true w.if-at-buffer.true on inside))
+                subst (λ x. ListFair k x.skip c.in_ok-seen.seen x.written low high before c.if-self.buffer) (sym w.self-is)
+                (subst (λ b. ListFair k self.skip c.in_ok-seen.seen (self.written + 1) low high before b) (sym w.buffer-is)
+                (fair_put k self.skip self.seen self.written low high before buffer fair p c.in_ok-seen.seen e w.if-self.true w.if-at-buffer.true on inside))
             | else-self w ↦
-                subst (λ x. ListFair k x.skip c.in-Some.seen x.written low high before c.if-self.buffer) (sym w.self-is)
-                (subst (λ b. ListFair k self.skip c.in-Some.seen self.written low high before b) (sym w.buffer-is)
-                (fair_pass k self.skip self.seen self.written low high before buffer fair c.in-Some.seen (omega arith)
+                subst (λ x. ListFair k x.skip c.in_ok-seen.seen x.written low high before c.if-self.buffer) (sym w.self-is)
+                (subst (λ b. ListFair k self.skip c.in_ok-seen.seen self.written low high before b) (sym w.buffer-is)
+                (fair_pass k self.skip self.seen self.written low high before buffer fair c.in_ok-seen.seen (omega arith)
                 (elim w.else-self.branch [
                   | else-self-via-then-self+else-at-buffer w' ↦ inr w'.if-at-buffer.false
                   | else-self-via-else-self w' ↦ inl (omega (arith, w'.if-self.false))
