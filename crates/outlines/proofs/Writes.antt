@@ -4,14 +4,6 @@ use borrow.Rule.Slice.PartMut.{put_mid}
 use Rattle.std.proofs.lemmas.List.{take_at, drop_at, drop-drop}
 use Rattle.outlines.specs.Records.{Wrote}
 
-set_whole : (xs : List ℕ) (at b : ℕ) → at < length xs → set xs at b ≡ take at xs ++ (b ∷ drop (suc at) xs)
-set_whole [] at b lt = absurd (omega arith)
-set_whole (x ∷ xs) zero b lt = refl
-set_whole (x ∷ xs) (suc at) b lt = ap (λ ys. x ∷ ys) (set_whole xs at b (omega arith))
-
-pub wrote_byte : (xs : List ℕ) (at b : ℕ) → at + 1 ≤ length xs → Wrote xs at (b ∷ []) (set xs at b)
-wrote_byte xs at b room = let e : suc at ≡ at + 1 = omega arith in record { room = room; is = set_whole xs at b (omega arith) ∙ ap (λ i. take at xs ++ (b ∷ drop i xs)) e }
-
 pub wrote_part : (at k : ℕ) (xs ys new : List ℕ) → k ≡ length new → ys ≡ new → at + k ≤ length xs → Wrote xs at new (put_mid at k xs ys)
 wrote_part at k xs ys new l e room =
     record { room = omega arith; is = ap (λ z. take at xs ++ (z ++ drop k (drop at xs))) e ∙ ap (λ z. take at xs ++ (new ++ z)) (drop-drop k at xs ∙ ap (λ i. drop (at + i) xs) l) }

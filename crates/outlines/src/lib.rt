@@ -12,12 +12,12 @@ ghost use Rattle.access.specs.Reached.{Reached};
 ghost use Rattle.outlines.specs.Records.{Wrote};
 ghost use Rattle.outlines.specs.Outlining.{TreePages, OutlineAny};
 
-use access::load;
+use access::{load_head, load_node};
 use kinds::kind::PointKind;
-use page::entry::Entry;
-use page::head_page::{Head, read_head};
-use page::tree_page::{Node, read_node};
-use record::{Sort, put_record, record_size};
+use page::entry::{Entry, entry_size};
+use page::head_page::Head;
+use page::tree_page::Node;
+use record::{Sort, put_record};
 use refusal::Refusal;
 use store::page_store::PageStore;
 
@@ -41,16 +41,11 @@ fn outline_below<K: PointKind, S: PageStore>(
     ensures always { MatchResult result (λ next. (next ≤ end) × (drop end buffer.new ≡ drop end buffer.old)) (λ e. number e ≡ 9) }
     ensures keeps { S.PageStore.pages store.new ≡ S.PageStore.pages store.old }
 {
-    let next = at + record_size::<K>();
+    let next = at + entry_size::<K>();
     if next > end {
         return Err(Refusal::Damaged);
     }
-    let Ok(bytes) = load(store, entry.page as usize) else {
-        return Err(Refusal::Damaged);
-    };
-    let Ok(node) = read_node::<K>(entry.page as usize, &bytes) else {
-        return Err(Refusal::Damaged);
-    };
+    let (_bytes, node) = load_node::<K, S>(store, entry.page)?;
     let Node::Directory(fork) = node else {
         put_record(buffer, at, Sort::Data, &entry);
         return Ok(next);
@@ -60,9 +55,7 @@ fn outline_below<K: PointKind, S: PageStore>(
     }
     put_record(buffer, at, Sort::Directory, &entry);
     let deeper = fork.depth + 1;
-    let Ok(middle) = outline_below(store, fork.low, buffer, next, end, deeper) else {
-        return Err(Refusal::Damaged);
-    };
+    let middle = outline_below(store, fork.low, buffer, next, end, deeper)?;
     outline_below(store, fork.high, buffer, middle, end, deeper)
 }
 
@@ -70,10 +63,11 @@ fn outline_below<K: PointKind, S: PageStore>(
 fn tree_pages<K: PointKind>(head: &Head<K>, count: usize) -> Option<usize>
     ensures { TreePages head.now.free count result }
 {
-    if count > 65535 || count <= head.free as usize {
+    let free = usize::from(head.free);
+    if count > 65535 || count <= free {
         return None;
     }
-    Some(count - 1 - head.free as usize)
+    Some(count - 1 - free)
 }
 
 // Writes one record for each page of the tree, from the root on. It answers the bytes written; the rest of the buffer is kept. 9, then 7 if the buffer is too short.
@@ -85,17 +79,9 @@ pub fn outline<K: PointKind, S: PageStore>(
     ensures always { OutlineAny buffer.old buffer.new result }
     ensures keeps { S.PageStore.pages store.new ≡ S.PageStore.pages store.old }
 {
-    let Ok(bytes) = load(store, 0) else {
-        return Err(Refusal::Damaged);
-    };
-    let Ok(head) = read_head::<K>(0, &bytes) else {
-        return Err(Refusal::Damaged);
-    };
-    let count = store.count();
-    let Some(pages) = tree_pages(&head, count) else {
-        return Err(Refusal::Damaged);
-    };
-    let end = pages * record_size::<K>();
+    let head = load_head::<K, S>(store)?;
+    let pages = tree_pages(&head, store.count()).ok_or(Refusal::Damaged)?;
+    let end = pages * entry_size::<K>();
     let Some(root) = head.root else {
         return if end == 0 {
             Ok(0)
@@ -106,9 +92,7 @@ pub fn outline<K: PointKind, S: PageStore>(
     if end > buffer.len() {
         return Err(Refusal::ShortBuffer);
     }
-    let Ok(next) = outline_below(store, root, buffer, 0, end, 0) else {
-        return Err(Refusal::Damaged);
-    };
+    let next = outline_below(store, root, buffer, 0, end, 0)?;
     if next == end {
         Ok(end)
     } else {

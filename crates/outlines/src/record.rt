@@ -6,7 +6,7 @@ ghost use Rattle.page.specs.Checks.{summary};
 ghost use Rattle.outlines.specs.Records.{sort_number, record_of, Wrote};
 
 use kinds::kind::PointKind;
-use kinds::points::{depth, size};
+use kinds::points::depth;
 use page::entry::Entry;
 
 // What a page of the tree is, as a record says it: 1 for a data page, 2 for a directory page.
@@ -16,38 +16,24 @@ pub(crate) enum Sort {
     Directory,
 }
 
-impl Sort {
-    fn number(self) -> u8
-        ensures { result ≡ sort_number self }
-    {
-        match self {
+impl From<Sort> for u8 {
+    ghost from_gives = { λ sort number. number ≡ sort_number sort };
+
+    fn from(sort: Sort) -> u8 {
+        match sort {
             Sort::Data => 1,
             Sort::Directory => 2,
         }
     }
 }
 
-// How many bytes a record has: kind (1), number of points (4), shared first bits (1), low corner, high corner.
-pub(crate) fn record_size<K: PointKind>() -> usize
-    ensures { result ≡ entry_length K.PointKind.kind }
+// Some bytes at a place.
+fn put_bytes(buffer: &mut [u8], at: usize, bytes: &[u8])
+    requires { at + length bytes.now ≤ length buffer.old }
+    ensures { Wrote buffer.old at bytes.now buffer.new }
 {
-    6 + 2 * size::<K>()
-}
-
-// One byte at a place.
-fn put_byte(buffer: &mut [u8], at: usize, byte: u8)
-    requires { at + 1 ≤ length buffer.old }
-    ensures { Wrote buffer.old at (byte ∷ []) buffer.new }
-{
-    buffer[at] = byte;
-}
-
-// A number in four bytes at a place.
-fn put_four(buffer: &mut [u8], at: usize, number: u32)
-    requires { at + 4 ≤ length buffer.old }
-    ensures { Wrote buffer.old at (bytes 4 number) buffer.new }
-{
-    buffer[at..at + 4].copy_from_slice(&number.to_le_bytes());
+    let end = at + bytes.len();
+    buffer[at..end].copy_from_slice(bytes);
 }
 
 // A point at a place.
@@ -56,11 +42,11 @@ fn put_point<K: PointKind>(buffer: &mut [u8], at: usize, point: &K)
     ensures wrote { Wrote buffer.old at (bytes_of K.PointKind.kind point.now) buffer.new }
     ensures long { length (bytes_of K.PointKind.kind point.now) ≡ size_of K.PointKind.kind }
 {
-    let end = at + size::<K>();
+    let end = at + K::SIZE;
     point.write(&mut buffer[at..end]);
 }
 
-// The record of a page that an entry leads to, at a place.
+// The record of a page that an entry leads to, at a place: kind (1 byte), number of points (4), shared first bits (1), low corner, high corner. It is as long as an entry.
 pub(crate) fn put_record<K: PointKind>(buffer: &mut [u8], at: usize, sort: Sort, entry: &Entry<K>)
     requires room { at + entry_length K.PointKind.kind ≤ length buffer.old }
     requires low_on { On K.PointKind.kind entry.now.low }
@@ -69,9 +55,9 @@ pub(crate) fn put_record<K: PointKind>(buffer: &mut [u8], at: usize, sort: Sort,
     ensures long { length (record_of K.PointKind.kind sort (summary K.PointKind.kind entry.now)) ≡ entry_length K.PointKind.kind }
 {
     let shared = depth(&entry.low, &entry.high);
-    put_byte(buffer, at, sort.number());
-    put_four(buffer, at + 1, entry.count);
-    put_byte(buffer, at + 5, shared as u8);
+    put_bytes(buffer, at, &[u8::from(sort)]);
+    put_bytes(buffer, at + 1, &entry.count.to_le_bytes());
+    put_bytes(buffer, at + 5, &[shared as u8]);
     put_point(buffer, at + 6, &entry.low);
-    put_point(buffer, at + 6 + size::<K>(), &entry.high);
+    put_point(buffer, at + 6 + K::SIZE, &entry.high);
 }
