@@ -7,7 +7,6 @@ mod tests {
     use kinds::kind::PointKind;
     use kinds::lay::LayPoint;
     use kinds::points::{bit, corners, depth, inside, same};
-    use kinds::shape::Shape;
     use std::test::Fail;
 
     // Course, shog, code and bytes: both ends of both axes, the middle, and some others.
@@ -128,26 +127,28 @@ mod tests {
     #[test]
     fn shapes(rt: HostRuntime) {
         assert_eq!(rt;
-            LayPoint::shape(),
-            Shape {
-                bits: 28,
-                capacity: 15,
-                size: 4,
-                data_page: 1,
-                directory_page: 3,
-                head_page: 5,
-            }
+            (LayPoint::BITS, LayPoint::CAPACITY, LayPoint::SIZE),
+            (28, 15, 4)
         );
         assert_eq!(rt;
-            BarPoint::shape(),
-            Shape {
-                bits: 34,
-                capacity: 10,
-                size: 6,
-                data_page: 2,
-                directory_page: 4,
-                head_page: 6,
-            }
+            (
+                LayPoint::DATA_PAGE,
+                LayPoint::DIRECTORY_PAGE,
+                LayPoint::HEAD_PAGE,
+            ),
+            (1, 3, 5)
+        );
+        assert_eq!(rt;
+            (BarPoint::BITS, BarPoint::CAPACITY, BarPoint::SIZE),
+            (34, 10, 6)
+        );
+        assert_eq!(rt;
+            (
+                BarPoint::DATA_PAGE,
+                BarPoint::DIRECTORY_PAGE,
+                BarPoint::HEAD_PAGE,
+            ),
+            (2, 4, 6)
         );
     }
 
