@@ -12,13 +12,10 @@ pub struct Tally {
 
 impl fmt::Display for Tally {
     fn fmt<W: fmt::Write>(&self, f: &mut fmt::Formatter<W>) -> fmt::Result {
-        let points = self.points;
-        let data = self.data_pages;
-        let directories = self.directory_pages;
-        let free = self.free_pages;
         write!(
             f,
-            "points {points}, data pages {data}, directory pages {directories}, free pages {free}"
+            "points {}, data pages {}, directory pages {}, free pages {}",
+            self.points, self.data_pages, self.directory_pages, self.free_pages
         )
     }
 }

@@ -25,9 +25,8 @@ pub fn place(origin: Origin, point: LayPoint) -> Result<LayPoint, Refusal>
     if !point.on_axes() {
         return Err(Refusal::OffAxis);
     }
-    let Some(course) = origin.course().checked_add(point.course) else {
-        return Err(Refusal::OffAxis);
-    };
+    let course = origin.course().checked_add(point.course);
+    let course = course.ok_or(Refusal::OffAxis)?;
     // the sum of two shogs on their axis fits
     let placed = LayPoint {
         course,

@@ -50,8 +50,6 @@ impl Origin {
 
 impl fmt::Display for Origin {
     fn fmt<W: fmt::Write>(&self, f: &mut fmt::Formatter<W>) -> fmt::Result {
-        let course = self.course;
-        let shog = self.shog;
-        write!(f, "course {course}, shog {shog}")
+        write!(f, "course {}, shog {}", self.course, self.shog)
     }
 }

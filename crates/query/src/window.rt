@@ -4,6 +4,7 @@ ghost use Rattle.kinds.specs.Kind.{Whether};
 ghost use Rattle.query.specs.Windows.{Checked};
 
 use kinds::kind::PointKind;
+use kinds::points::inside;
 use refusal::Refusal;
 
 // A window, by its corners. Any two points can stand here; `check` tells whether they are the corners of a window.
@@ -31,7 +32,7 @@ impl<K: PointKind> Window<K> {
     pub fn holds(&self, p: &K) -> bool
         ensures { Whether result (Inside (K.PointKind.kind.coords self.now.low) (K.PointKind.kind.coords self.now.high) (K.PointKind.kind.coords p.now)) }
     {
-        self.low.under(p) && p.under(&self.high)
+        inside(p, &self.low, &self.high)
     }
 
     // Whether the window meets that of two corners: neither ends before the other begins, on any axis.
