@@ -66,11 +66,7 @@ impl<K: PointKind, S: PageStore> Draft<K, S> {
         ensures origin { IfOk result (λ d. (d.origin.course ≡ 0) × (d.origin.shog ≡ pos 0)) }
     {
         match begin_card::<K, S>(&mut store) {
-            Ok(()) => Ok(Draft {
-                store,
-                origin: Origin::start(),
-                points: PhantomData,
-            }),
+            Ok(()) => Ok(Draft::open(store)),
             Err(why) => Err((why, store)),
         }
     }
@@ -79,11 +75,7 @@ impl<K: PointKind, S: PageStore> Draft<K, S> {
     pub fn close(self) -> S
         ensures { result ≡ self.store }
     {
-        let Draft {
-            store,
-            origin: _,
-            points: _,
-        } = self;
+        let Draft { store, .. } = self;
         store
     }
 

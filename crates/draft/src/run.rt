@@ -68,13 +68,8 @@ pub fn run<K: PointKind, S: PageStore>(
     if replies.capacity() < calls.len() {
         return Err((Halt::Room, store));
     }
-    match Draft::<K, S>::begin(store) {
-        Ok(draft) => match resume(draft, calls, replies) {
-            Ok(done) => Ok(done),
-            Err((halt, draft)) => Err((halt, draft.close())),
-        },
-        Err((why, store)) => Err((Halt::Refused(why), store)),
-    }
+    let draft = Draft::<K, S>::begin(store).map_err(|(why, store)| (Halt::Refused(why), store))?;
+    resume(draft, calls, replies).map_err(|(halt, draft)| (halt, draft.close()))
 }
 
 // What a mill asks of a run: a point that was put and not taken is listed at the end, one that was taken and not put again is not, and equal books have equal trees whatever the order of the corrections.
