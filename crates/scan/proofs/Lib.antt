@@ -4,3 +4,4 @@ pub mod Walking
 pub mod Listing
 pub mod Picking
 pub mod Answering
+pub mod Wholes

@@ -7,6 +7,7 @@ ghost use Rattle.scan.specs.Answers.{WindowAny};
 
 use crate::gather::Gather;
 use crate::walk::scan;
+use crate::whole::WholeWindow;
 use kinds::kind::PointKind;
 use query::window::Window;
 use refusal::Refusal;
@@ -51,9 +52,9 @@ pub fn count<K: PointKind, S: PageStore>(
     ensures always { WindowAny K.PointKind.kind window.now (λ n. Unit {0}) result }
     ensures keeps { S.PageStore.pages store.new ≡ S.PageStore.pages store.old }
 {
-    window.check()?;
+    let window = WholeWindow::new(window)?;
     let mut counter = Counter { total: 0 };
     let mut none: [K; 0] = [];
-    scan(store, window, &mut counter, &mut none)?;
+    scan(store, &window, &mut counter, &mut none)?;
     Ok(counter.total)
 }

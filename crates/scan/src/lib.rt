@@ -6,3 +6,4 @@ mod gather;
 pub mod list;
 pub mod pick;
 mod walk;
+mod whole;

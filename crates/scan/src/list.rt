@@ -8,6 +8,7 @@ ghost use Rattle.scan.specs.Listing.{Listed, ListFair, ListBuffer, ListAny};
 
 use crate::gather::Gather;
 use crate::walk::scan;
+use crate::whole::WholeWindow;
 use kinds::kind::PointKind;
 use query::window::Window;
 use refusal::Refusal;
@@ -66,12 +67,12 @@ pub fn list<K: PointKind, S: PageStore>(
     ensures always { WindowAny K.PointKind.kind window.now (λ x. Unit {0}) result × ListAny K.PointKind.kind window.now skip buffer.old buffer.new result }
     ensures keeps { S.PageStore.pages store.new ≡ S.PageStore.pages store.old }
 {
-    window.check()?;
+    let window = WholeWindow::new(window)?;
     let mut lister = Lister {
         skip,
         seen: 0,
         written: 0,
     };
-    scan(store, window, &mut lister, buffer)?;
+    scan(store, &window, &mut lister, buffer)?;
     Ok((lister.written, lister.seen))
 }

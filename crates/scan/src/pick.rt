@@ -9,6 +9,7 @@ ghost use Rattle.scan.specs.Answers.{WindowAny, InIt};
 
 use crate::gather::Gather;
 use crate::walk::scan;
+use crate::whole::WholeWindow;
 use kinds::kind::PointKind;
 use query::window::Window;
 use refusal::Refusal;
@@ -52,9 +53,9 @@ pub fn pick<K: PointKind, S: PageStore>(
     ensures always { WindowAny K.PointKind.kind window.now (InIt K.PointKind.kind window.now.low window.now.high) result }
     ensures keeps { S.PageStore.pages store.new ≡ S.PageStore.pages store.old }
 {
-    window.check()?;
+    let window = WholeWindow::new(window)?;
     let mut picker = Picker { found: None };
     let mut none: [K; 0] = [];
-    scan(store, window, &mut picker, &mut none)?;
+    scan(store, &window, &mut picker, &mut none)?;
     Ok(picker.found)
 }

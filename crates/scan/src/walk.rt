@@ -8,30 +8,28 @@ ghost use Rattle.tree.specs.Book.{windowed};
 ghost use Rattle.tree.specs.Laid.{Laid, numbers};
 ghost use Rattle.tree.specs.Lawful.{Lawful, page as page_of};
 ghost use Rattle.tree.specs.Standing.{view_of};
-ghost use Rattle.query.specs.Windows.{Whole};
 ghost use Rattle.scan.specs.Walking.{Walked, Below};
 
 use crate::gather::Gather;
+use crate::whole::WholeWindow;
 use access::{load_head, load_node};
 use kinds::kind::PointKind;
 use page::data_page::DataView;
 use page::entry::Entry;
 use page::tree_page::Node;
-use query::window::Window;
 use refusal::Refusal;
 use store::page_store::PageStore;
 
 // The points of a data page that lie in the window.
 fn gather_page<K: PointKind, G: Gather<K>>(
     bytes: &[u8; 64],
-    window: &Window<K>,
+    window: &WholeWindow<K>,
     gather: &mut G,
     buffer: &mut [K],
 ) -> Result<(), Refusal>
-    requires whole { Whole K.PointKind.kind window.now }
-    requires data_page { IsData K.PointKind.kind bytes.now }
-    ensures lawful { (points : List K) → Reads K.PointKind.kind bytes.now (data_view (map K.PointKind.kind.coords points)) → (before xs : List K) → length (xs ++ windowed K.PointKind.kind window.now.low window.now.high points) < 2 ^ 32 → G.Gather.met gather.old before buffer.old xs → MatchResult result (λ _. G.Gather.met gather.new before buffer.new (xs ++ windowed K.PointKind.kind window.now.low window.now.high points)) (λ e. ⊥) }
-    ensures always { (before : List K) → G.Gather.fair gather.old window.now.low window.now.high before buffer.old → OnOk result (G.Gather.fair gather.new window.now.low window.now.high before buffer.new) }
+    requires { IsData K.PointKind.kind bytes.now }
+    ensures lawful { (points : List K) → Reads K.PointKind.kind bytes.now (data_view (map K.PointKind.kind.coords points)) → (before xs : List K) → length (xs ++ windowed K.PointKind.kind window.now.corners.low window.now.corners.high points) < 2 ^ 32 → G.Gather.met gather.old before buffer.old xs → MatchResult result (λ _. G.Gather.met gather.new before buffer.new (xs ++ windowed K.PointKind.kind window.now.corners.low window.now.corners.high points)) (λ e. ⊥) }
+    ensures always { (before : List K) → G.Gather.fair gather.old window.now.corners.low window.now.corners.high before buffer.old → OnOk result (G.Gather.fair gather.new window.now.corners.low window.now.corners.high before buffer.new) }
     ensures refused { IfErr result (λ e. number e ≡ 9) }
     ensures same { G.Gather.passes gather.new ≡ G.Gather.passes gather.old }
 {
@@ -40,7 +38,7 @@ fn gather_page<K: PointKind, G: Gather<K>>(
         let Some(p) = view.point(i) else {
             return Err(Refusal::Damaged);
         };
-        if window.holds(&p) {
+        if window.corners.holds(&p) {
             gather.point(&p, buffer)?;
         }
     }
@@ -50,20 +48,19 @@ fn gather_page<K: PointKind, G: Gather<K>>(
 // Whether the pages that an entry leads to can be passed over: no further point is wanted, none lies in the window, or all lie in it and their number is enough.
 fn passed<K: PointKind, G: Gather<K>>(
     entry: &Entry<K>,
-    window: &Window<K>,
+    window: &WholeWindow<K>,
     gather: &mut G,
     places: usize,
 ) -> Result<bool, Refusal>
-    requires { Whole K.PointKind.kind window.now }
-    ensures lawful { (ps : List K) → Below K.PointKind.kind ps (summary K.PointKind.kind entry.now) → (before buffer xs : List K) → length buffer ≡ places → length (xs ++ windowed K.PointKind.kind window.now.low window.now.high ps) < 2 ^ 32 → G.Gather.met gather.old before buffer xs → MatchResult result (λ b. MatchBool b (G.Gather.met gather.new before buffer (xs ++ windowed K.PointKind.kind window.now.low window.now.high ps)) (G.Gather.met gather.new before buffer xs)) (λ e. ⊥) }
-    ensures always { (before buffer : List K) → length buffer ≡ places → G.Gather.fair gather.old window.now.low window.now.high before buffer → IfOk result (λ b. G.Gather.fair gather.new window.now.low window.now.high before buffer) }
+    ensures lawful { (ps : List K) → Below K.PointKind.kind ps (summary K.PointKind.kind entry.now) → (before buffer xs : List K) → length buffer ≡ places → length (xs ++ windowed K.PointKind.kind window.now.corners.low window.now.corners.high ps) < 2 ^ 32 → G.Gather.met gather.old before buffer xs → MatchResult result (λ b. MatchBool b (G.Gather.met gather.new before buffer (xs ++ windowed K.PointKind.kind window.now.corners.low window.now.corners.high ps)) (G.Gather.met gather.new before buffer xs)) (λ e. ⊥) }
+    ensures always { (before buffer : List K) → length buffer ≡ places → G.Gather.fair gather.old window.now.corners.low window.now.corners.high before buffer → IfOk result (λ b. G.Gather.fair gather.new window.now.corners.low window.now.corners.high before buffer) }
     ensures refused { IfErr result (λ e. number e ≡ 9) }
     ensures same { G.Gather.passes gather.new ≡ G.Gather.passes gather.old }
 {
-    if gather.done() || !window.meets(&entry.low, &entry.high) {
+    if gather.done() || !window.corners.meets(&entry.low, &entry.high) {
         return Ok(true);
     }
-    if window.covers(&entry.low, &entry.high) {
+    if window.corners.covers(&entry.low, &entry.high) {
         return gather.unread(entry.count, places);
     }
     Ok(false)
@@ -90,15 +87,14 @@ fn spend<K: PointKind, S: PageStore>(
 pub(crate) fn walk<K: PointKind, S: PageStore, G: Gather<K>>(
     store: &mut S,
     entry: Entry<K>,
-    window: &Window<K>,
+    window: &WholeWindow<K>,
     gather: &mut G,
     buffer: &mut [K],
     above: u32,
     left: &mut usize,
 ) -> Result<(), Refusal>
-    requires { Whole K.PointKind.kind window.now }
-    ensures lawful { (ps : List K) (t : Laid K) → Walked K.PointKind.kind (S.PageStore.pages store.old) ps t (summary K.PointKind.kind entry) above left.old → (before xs : List K) → length (xs ++ windowed K.PointKind.kind window.now.low window.now.high ps) < 2 ^ 32 → G.Gather.met gather.old before buffer.old xs → MatchResult result (λ _. G.Gather.met gather.new before buffer.new (xs ++ windowed K.PointKind.kind window.now.low window.now.high ps) × (left.old ≤ left.new + length (numbers t))) (λ e. ⊥) }
-    ensures always { (before : List K) → G.Gather.fair gather.old window.now.low window.now.high before buffer.old → OnOk result (G.Gather.fair gather.new window.now.low window.now.high before buffer.new) }
+    ensures lawful { (ps : List K) (t : Laid K) → Walked K.PointKind.kind (S.PageStore.pages store.old) ps t (summary K.PointKind.kind entry) above left.old → (before xs : List K) → length (xs ++ windowed K.PointKind.kind window.now.corners.low window.now.corners.high ps) < 2 ^ 32 → G.Gather.met gather.old before buffer.old xs → MatchResult result (λ _. G.Gather.met gather.new before buffer.new (xs ++ windowed K.PointKind.kind window.now.corners.low window.now.corners.high ps) × (left.old ≤ left.new + length (numbers t))) (λ e. ⊥) }
+    ensures always { (before : List K) → G.Gather.fair gather.old window.now.corners.low window.now.corners.high before buffer.old → OnOk result (G.Gather.fair gather.new window.now.corners.low window.now.corners.high before buffer.new) }
     ensures refused { IfErr result (λ e. number e ≡ 9) }
     ensures same { G.Gather.passes gather.new ≡ G.Gather.passes gather.old }
     ensures keeps { S.PageStore.pages store.new ≡ S.PageStore.pages store.old }
@@ -121,13 +117,12 @@ pub(crate) fn walk<K: PointKind, S: PageStore, G: Gather<K>>(
 // The points of a window, from the root of a draft. With the head at most as many pages are read as the card has.
 pub(crate) fn scan<K: PointKind, S: PageStore, G: Gather<K>>(
     store: &mut S,
-    window: &Window<K>,
+    window: &WholeWindow<K>,
     gather: &mut G,
     buffer: &mut [K],
 ) -> Result<(), Refusal>
-    requires { Whole K.PointKind.kind window.now }
-    ensures lawful { (set : List K) → Lawful K.PointKind.kind (S.PageStore.pages store.old) set → (before : List K) → G.Gather.met gather.old before buffer.old [] → MatchResult result (λ _. G.Gather.met gather.new before buffer.new (windowed K.PointKind.kind window.now.low window.now.high set)) (λ e. ⊥) }
-    ensures always { (before : List K) → G.Gather.fair gather.old window.now.low window.now.high before buffer.old → OnOk result (G.Gather.fair gather.new window.now.low window.now.high before buffer.new) }
+    ensures lawful { (set : List K) → Lawful K.PointKind.kind (S.PageStore.pages store.old) set → (before : List K) → G.Gather.met gather.old before buffer.old [] → MatchResult result (λ _. G.Gather.met gather.new before buffer.new (windowed K.PointKind.kind window.now.corners.low window.now.corners.high set)) (λ e. ⊥) }
+    ensures always { (before : List K) → G.Gather.fair gather.old window.now.corners.low window.now.corners.high before buffer.old → OnOk result (G.Gather.fair gather.new window.now.corners.low window.now.corners.high before buffer.new) }
     ensures refused { IfErr result (λ e. number e ≡ 9) }
     ensures same { G.Gather.passes gather.new ≡ G.Gather.passes gather.old }
     ensures keeps { S.PageStore.pages store.new ≡ S.PageStore.pages store.old }

@@ -3,3 +3,4 @@ pub mod Sharing
 pub mod Halves
 pub mod Laws
 pub mod Raising
+pub mod Props

@@ -9,6 +9,7 @@ use Rattle.tree.specs.Tree.{TreeOf}
 use Rattle.tree.proofs.Standings.{leaf_inv}
 use Rattle.access.proofs.Nodes.{never_fault}
 use Rattle.access.proofs.Reaching.{reached_there, reached_reads, leafed, forked, forked_deep}
+use Rattle.scan.proofs.Wholes.{whole}
 use Rattle.scan.proofs.Walking.{when_true, when_false, cases_and, cases_map, some_page, walked_on, below_of, halves_join, low_few, high_few, low_walked, high_walked, halves_spent}
 use Rattle.scan.proofs.walk.+walk.Goals as goal
 
@@ -50,7 +51,7 @@ returns-in_default g t c =
     let k = g.K.PointKind.kind in
     let s = g.met.K.PointKind.sound in
     let card = g.S.PageStore.pages c.args.store.now in
-    let w = c.args.window.now in
+    let w = c.args.window.now.corners in
     let bytes = c.in_ok-bytes.bytes in
     record {
       lawful = λ ps u v before xs few met.
@@ -95,16 +96,16 @@ returns-in_err-walk-clause-lawful g t c ps u v before xs few met =
     let k = g.K.PointKind.kind in
     let s = g.met.K.PointKind.sound in
     let card = g.S.PageStore.pages c.args.store.now in
-    let w = c.args.window.now in
+    let w = c.args.window.now.corners in
     let bytes = c.in_ok-bytes.bytes in
     let x = c.in-Directory.fork in
     let e = summary k c.args.entry in
     let rd = reached_reads k s card ps e c.args.above u v.reached bytes c.in_ok-bytes.ensures.reads.0 in
     let f = forked k s card u bytes x.depth (summary k x.low) (summary k x.high) rd (subst (NodeRead k bytes) c.in-Directory.is c.in_ok-bytes.ensures.reads.1) in
     let m = when_false c.in_ok-passed.field-0 _ _ c.if-branch.false (c.in_ok-passed.ensures.lawful ps (below_of k s card ps e c.args.above u v.reached) before c.args.buffer.now xs refl few met) in
-    let lo = low_walked k s card w c.requires ps u e c.args.above c.args.left.now v x.depth (summary k x.low) (summary k x.high) f c.spend.new.left c.in_ok-bytes.ensures.reads.2 in
+    let lo = low_walked k s card w (whole c.args.window.now) ps u e c.args.above c.args.left.now v x.depth (summary k x.low) (summary k x.high) f c.spend.new.left c.in_ok-bytes.ensures.reads.2 in
     absurd (c.in_err-walk.ensures.lawful _ f.l (walked_on k c.spend.ensures.keeps lo) before xs
-    (low_few k s card w c.requires ps u e c.args.above c.args.left.now v x.depth (summary k x.low) (summary k x.high) f xs few) m)
+    (low_few k s card w (whole c.args.window.now) ps u e c.args.above c.args.left.now v x.depth (summary k x.low) (summary k x.high) f xs few) m)
 
 -- both halves
 pub returns : goal.returns
@@ -112,7 +113,7 @@ returns g t c =
     let k = g.K.PointKind.kind in
     let s = g.met.K.PointKind.sound in
     let card = g.S.PageStore.pages c.args.store.now in
-    let w = c.args.window.now in
+    let w = c.args.window.now.corners in
     let bytes = c.in_ok-bytes.bytes in
     let x = c.in-Directory.fork in
     let kept = c.walk.ensures.keeps ∙ c.spend.ensures.keeps in
@@ -123,16 +124,16 @@ returns g t c =
           let f = forked k s card u bytes x.depth (summary k x.low) (summary k x.high) rd (subst (NodeRead k bytes) c.in-Directory.is c.in_ok-bytes.ensures.reads.1) in
           let m = when_false c.in_ok-passed.field-0 _ _ c.if-branch.false (c.in_ok-passed.ensures.lawful ps (below_of k s card ps e c.args.above u v.reached) before c.args.buffer.now xs refl few met) in
           let one = c.in_ok-bytes.ensures.reads.2 in
-          let lo = low_walked k s card w c.requires ps u e c.args.above c.args.left.now v x.depth (summary k x.low) (summary k x.high) f c.spend.new.left one in
+          let lo = low_walked k s card w (whole c.args.window.now) ps u e c.args.above c.args.left.now v x.depth (summary k x.low) (summary k x.high) f c.spend.new.left one in
           let a = c.in_ok-walk.ensures.lawful _ f.l (walked_on k c.spend.ensures.keeps lo) before xs
-          (low_few k s card w c.requires ps u e c.args.above c.args.left.now v x.depth (summary k x.low) (summary k x.high) f xs few) m in
-          let hi = high_walked k s card w c.requires ps u e c.args.above c.args.left.now v x.depth (summary k x.low) (summary k x.high) f c.spend.new.left c.walk.new.left one a.1 in
+          (low_few k s card w (whole c.args.window.now) ps u e c.args.above c.args.left.now v x.depth (summary k x.low) (summary k x.high) f xs few) m in
+          let hi = high_walked k s card w (whole c.args.window.now) ps u e c.args.above c.args.left.now v x.depth (summary k x.low) (summary k x.high) f c.spend.new.left c.walk.new.left one a.1 in
           let b = c.walk-2.ensures.lawful _ f.h (walked_on k kept hi) before _
-          (high_few k s card w c.requires ps u e c.args.above c.args.left.now v x.depth (summary k x.low) (summary k x.high) f xs few) a.0 in
+          (high_few k s card w (whole c.args.window.now) ps u e c.args.above c.args.left.now v x.depth (summary k x.low) (summary k x.high) f xs few) a.0 in
           cases_map c.walk-2.result _ _
           (λ h. (
-            subst (λ ys. g.G.Gather.met c.walk-2.new.gather before c.walk-2.new.buffer ys) (halves_join k s card w c.requires ps u e c.args.above c.args.left.now v x.depth (summary k x.low) (summary k x.high) f xs) h.0,
-            halves_spent k s card w c.requires ps u e c.args.above c.args.left.now v x.depth (summary k x.low) (summary k x.high) f c.spend.new.left c.walk.new.left c.walk-2.new.left one a.1 h.1,
+            subst (λ ys. g.G.Gather.met c.walk-2.new.gather before c.walk-2.new.buffer ys) (halves_join k s card w (whole c.args.window.now) ps u e c.args.above c.args.left.now v x.depth (summary k x.low) (summary k x.high) f xs) h.0,
+            halves_spent k s card w (whole c.args.window.now) ps u e c.args.above c.args.left.now v x.depth (summary k x.low) (summary k x.high) f c.spend.new.left c.walk.new.left c.walk-2.new.left one a.1 h.1,
           )) b;
       always = λ before fair. c.walk-2.ensures.always before (c.in_ok-walk.ensures.always before (c.in_ok-passed.ensures.always before c.args.buffer.now refl fair));
       refused = c.walk-2.ensures.refused;

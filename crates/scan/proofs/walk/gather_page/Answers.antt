@@ -3,6 +3,7 @@ use Rattle.page.specs.Form.{Point, data_view}
 use Rattle.page.specs.Fields.{Reads}
 use Rattle.page.proofs.Writing.{length_coords}
 use Rattle.tree.specs.Book.{windowed}
+use Rattle.scan.proofs.Wholes.{whole}
 use Rattle.scan.proofs.Pages.{point_on, point_here, step_in, step_out, step_few}
 use Rattle.scan.proofs.walk.gather_page.Goals as goal
 use Rattle.scan.proofs.walk.gather_page.Goals.{then-holds+in_ok-point, else-holds}
@@ -30,27 +31,27 @@ returns-in_default g c =
 pub returns-in_err-point-clause-lawful : goal.returns-in_err-point-clause-lawful
 returns-in_err-point-clause-lawful g c points rd before xs few met =
     let k = g.K.PointKind.kind in
-    let w = c.args.window.now in
+    let w = c.args.window.now.corners in
     let i = c.loop-i.i in
     let p = c.in-Some.p in
     let h = point_here k g.met.K.PointKind.sound points i p (c.in-Some.ensures (map k.coords points) (subst (λ x. Reads k x (data_view (map k.coords points))) (sym c.over-view.ensures) rd)) in
-    absurd (c.in_err-point.ensures.lawful before (xs ++ windowed k w.low w.high (take i points)) (step_few k g.met.K.PointKind.sound w c.requires.whole points i p h.0 h.1 c.if-holds.ensures xs few) (c.loop-i.invariant.0 points rd before xs few met))
+    absurd (c.in_err-point.ensures.lawful before (xs ++ windowed k w.low w.high (take i points)) (step_few k g.met.K.PointKind.sound w (whole c.args.window.now) points i p h.0 h.1 c.if-holds.ensures xs few) (c.loop-i.invariant.0 points rd before xs few met))
 
 pub loop-i-preserved : goal.loop-i-preserved
 loop-i-preserved g c =
     let k = g.K.PointKind.kind in
     let s = g.met.K.PointKind.sound in
-    let w = c.args.window.now in
+    let w = c.args.window.now.corners in
     let i = c.loop-i.i in
     let p = c.in-Some.p in
     let at = λ (ps : List Point) (rd : Reads k c.args.bytes.now (data_view ps)). c.in-Some.ensures ps (subst (λ x. Reads k x (data_view ps)) (sym c.over-view.ensures) rd) in
-    let on = point_on k s c.args.bytes.now i p c.requires.data_page at in (
+    let on = point_on k s c.args.bytes.now i p c.requires at in (
       (λ points rd before xs few met.
           let h = point_here k s points i p (at (map k.coords points) rd) in
           let now = c.loop-i.invariant.0 points rd before xs few met in
           elim c.if-holds.branch [
-            | then-holds+in_ok-point v ↦ moved (λ a b ys. g.G.Gather.met a before b ys) v.gather-is v.buffer-is (step_in k s w c.requires.whole points i p h.0 h.1 v.if-holds.ensures xs) (v.in_ok-point.ensures.lawful before (xs ++ windowed k w.low w.high (take i points)) (step_few k s w c.requires.whole points i p h.0 h.1 v.if-holds.ensures xs few) now)
-            | else-holds v ↦ moved (λ a b ys. g.G.Gather.met a before b ys) v.gather-is v.buffer-is (step_out k s w c.requires.whole points i p h.0 h.1 on v.if-holds.ensures xs) now
+            | then-holds+in_ok-point v ↦ moved (λ a b ys. g.G.Gather.met a before b ys) v.gather-is v.buffer-is (step_in k s w (whole c.args.window.now) points i p h.0 h.1 v.if-holds.ensures xs) (v.in_ok-point.ensures.lawful before (xs ++ windowed k w.low w.high (take i points)) (step_few k s w (whole c.args.window.now) points i p h.0 h.1 v.if-holds.ensures xs few) now)
+            | else-holds v ↦ moved (λ a b ys. g.G.Gather.met a before b ys) v.gather-is v.buffer-is (step_out k s w (whole c.args.window.now) points i p h.0 h.1 on v.if-holds.ensures xs) now
           ]),
       (λ before fair.
           let now = c.loop-i.invariant.1 before fair in
@@ -67,7 +68,7 @@ loop-i-preserved g c =
 pub returns : goal.returns
 returns g c =
     let k = g.K.PointKind.kind in
-    let w = c.args.window.now in
+    let w = c.args.window.now.corners in
     record {
       lawful = λ points rd before xs few met.
           let n = c.count-i-end.ensures (map k.coords points) (subst (λ x. Reads k x (data_view (map k.coords points))) (sym c.over-view.ensures) rd) in

@@ -19,7 +19,7 @@ returns-in_default g c =
       lawful = λ set w before met.
           let h = c.in_ok-head.ensures.lawful set w in
           let e = (no_root k s _ set w (h.2 ∙ ap (root_summary k) c.in_default.is)).1 in
-          subst (λ ys. g.G.Gather.met c.args.gather.now before c.args.buffer.now (windowed k c.args.window.now.low c.args.window.now.high ys)) (sym e) met;
+          subst (λ ys. g.G.Gather.met c.args.gather.now before c.args.buffer.now (windowed k c.args.window.now.corners.low c.args.window.now.corners.high ys)) (sym e) met;
       always = λ before fair. fair;
       refused = tt;
       same = refl;
@@ -39,7 +39,7 @@ returns g c =
           let n : suc c.saturating_sub-left.result ≡ length card = let a = c.count-count.ensures.gives ∙ ap length c.load_head.ensures.keeps in let b = w.size.0 in omega (arith, c.saturating_sub-left.ensures) in
           let v = root_walked k s card set w r.tree r.is_root r.stands _ c.saturating_sub-left.result (ap (summary k) c.in-Some.root-is ∙ sym r.entry_is) n in
           cases_map c.walk.result _ _ (λ m. m.0)
-          (c.walk.ensures.lawful set r.tree (walked_on k c.load_head.ensures.keeps v) before [] (root_few_windowed k s card set w r.tree r.is_root r.stands c.args.window.now.low c.args.window.now.high) met);
+          (c.walk.ensures.lawful set r.tree (walked_on k c.load_head.ensures.keeps v) before [] (root_few_windowed k s card set w r.tree r.is_root r.stands c.args.window.now.corners.low c.args.window.now.corners.high) met);
       always = λ before fair. c.walk.ensures.always before fair;
       refused = c.walk.ensures.refused;
       same = c.walk.ensures.same;
