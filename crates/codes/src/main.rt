@@ -56,6 +56,7 @@ fn show_code<K: PointKind>(rt: &HostRuntime, before: Option<K>, point: K) -> io:
     requires { On K.PointKind.kind point }
 {
     let code = point.code();
+    // no `From` makes a `usize` of a `u32`
     let width = bits::<K>() as usize;
     println!(rt; "  code {code}")?;
     println!(rt; "  bits {code:0width$b}")?;

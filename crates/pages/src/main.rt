@@ -89,6 +89,7 @@ fn head_again<K: PointKind>(bytes: &[u8; 64]) -> Result<(), Unread> {
     compared(&head_page(&head), bytes)
 }
 
+// The room for points is lent: a list for each change would make want of memory one more outcome.
 fn data_again<K: PointKind>(bytes: &[u8; 64], room: &mut [K]) -> Result<(), Unread> {
     let view = DataView::<K>::new(1, bytes)?;
     let count = view.count();
