@@ -8,34 +8,12 @@ use kinds::kind::PointKind;
 use kinds::lay::LayPoint;
 use kinds::points::{depth, size};
 use std::time::Instant;
-use std::{env, fmt, io};
+use std::{env, io};
 
 // How many calls make a checksum, and how many are timed.
 const SUMMED: u32 = 2000;
 
 const TIMED: u32 = 1000000;
-
-// The calls.
-#[derive(Clone, Copy)]
-enum Call {
-    // the code of a point
-    Code,
-    // the first bits that a point's code shares with that of the point before
-    Depth,
-    // the bytes of a point
-    Bytes,
-}
-
-impl fmt::Display for Call {
-    fn fmt<W: fmt::Write>(&self, f: &mut fmt::Formatter<W>) -> fmt::Result {
-        let name = match self {
-            Call::Code => "code",
-            Call::Depth => "depth",
-            Call::Bytes => "bytes",
-        };
-        write!(f, "{name}")
-    }
-}
 
 // Pseudo-random numbers.
 #[derive(Drop)]
@@ -91,81 +69,86 @@ fn mix(sum: u64, answer: u64) -> u64 {
     sum.wrapping_mul(31).wrapping_add(answer)
 }
 
-fn codes<K: Sample>(count: u32) -> u64 {
-    let mut random = Random::new();
+// Mixes one more answer into a checksum for each of so many points that are drawn.
+fn checksum<K: Sample, F: FnMut(u64, K) -> u64>(
+    random: &mut Random,
+    count: u32,
+    mut mixed: F,
+) -> u64
+    requires { (state : F) (sum : _) (point : K) → On K.PointKind.kind point → F.pre state sum point }
+{
     let mut sum = 0;
     for _ in 0..count {
-        sum = mix(sum, K::sample(&mut random).code());
+        sum = mixed(sum, K::sample(random));
     }
     sum
 }
 
+// The code of each point.
+fn codes<K: Sample>(count: u32) -> u64 {
+    checksum(
+        &mut Random::new(),
+        count,
+        |sum, point: K|
+            requires { On K.PointKind.kind point }
+        { mix(sum, point.code()) },
+    )
+}
+
+// The first bits that each point's code shares with that of the point before.
 fn depths<K: Sample>(count: u32) -> u64 {
     let mut random = Random::new();
     let mut before = K::sample(&mut random);
-    let mut sum = 0;
-    for _ in 0..count {
-        let point = K::sample(&mut random);
-        if before.on_axes() {
-            sum = mix(sum, depth(&before, &point) as u64);
-        }
-        before = point;
-    }
-    sum
+    checksum(
+        &mut random,
+        count,
+        |sum, point: K|
+            requires { On K.PointKind.kind point }
+        {
+            let other = std::mem::replace(&mut before, point);
+            if other.on_axes() {
+                mix(sum, u64::from(depth(&other, &point)))
+            } else {
+                sum
+            }
+        },
+    )
 }
 
 // A checksum with the bytes of a point.
 fn mix_bytes<K: PointKind>(before: u64, point: K) -> u64 {
-    let mut room = [0u8; 12];
-    let out = &mut room[0..size::<K>()];
+    // no heap in what is timed
+    let mut room = [0; 12];
+    let out = &mut room[..size::<K>()];
     point.write(out);
-    let mut sum = before;
-    for b in out.iter() {
-        sum = mix(sum, u64::from(*b));
-    }
-    sum
+    out.iter()
+        .fold(before, |sum, byte| mix(sum, u64::from(*byte)))
 }
 
+// The bytes of each point.
 fn bytes<K: Sample>(count: u32) -> u64 {
-    let mut random = Random::new();
-    let mut sum = 0;
-    for _ in 0..count {
-        sum = mix_bytes(sum, K::sample(&mut random));
-    }
-    sum
+    checksum(&mut Random::new(), count, mix_bytes::<K>)
 }
 
-// The checksum of so many answers of a call.
-fn sum<K: Sample>(call: Call, count: u32) -> u64 {
-    match call {
-        Call::Code => codes::<K>(count),
-        Call::Depth => depths::<K>(count),
-        Call::Bytes => bytes::<K>(count),
-    }
-}
-
-// Prints a checksum, or times the calls.
-fn report<K: Sample>(rt: &HostRuntime, kind: &str, call: Call, time: bool) -> io::Result<()> {
+// Prints the checksum of so many answers, or times them.
+fn report<F: Fn(u32) -> u64>(rt: &HostRuntime, call: &str, time: bool, summed: F) -> io::Result<()>
+    requires { F.IsAlwaysCallable summed }
+{
     if !time {
-        let sum = sum::<K>(call, SUMMED);
-        return println!(rt; "{kind} {call} {sum}");
+        return println!(rt; "{call} {}", summed(SUMMED));
     }
     let start = Instant::now(rt)?;
-    let sum = sum::<K>(call, TIMED);
-    let each = start.elapsed(rt)?.as_nanos() / TIMED as u128;
-    println!(rt; "{kind} {call} {each} ns a call (checksum {sum})")
+    let sum = summed(TIMED);
+    let each = start.elapsed(rt)?.as_nanos() / u128::from(TIMED);
+    println!(rt; "{call} {each} ns a call (checksum {sum})")
 }
 
 fn main(rt: HostRuntime) -> io::Result<()> {
-    let mut time = false;
-    for word in env::args(&rt)?.skip(1) {
-        time = time || word.as_str() == "time";
-    }
-    for call in [Call::Code, Call::Depth, Call::Bytes] {
-        report::<LayPoint>(&rt, "lay", call, time)?;
-    }
-    for call in [Call::Code, Call::Depth, Call::Bytes] {
-        report::<BarPoint>(&rt, "bar", call, time)?;
-    }
-    Ok(())
+    let time = env::args(&rt)?.skip(1).any(|word| word.as_str() == "time");
+    report(&rt, "lay code", time, codes::<LayPoint>)?;
+    report(&rt, "lay depth", time, depths::<LayPoint>)?;
+    report(&rt, "lay bytes", time, bytes::<LayPoint>)?;
+    report(&rt, "bar code", time, codes::<BarPoint>)?;
+    report(&rt, "bar depth", time, depths::<BarPoint>)?;
+    report(&rt, "bar bytes", time, bytes::<BarPoint>)
 }

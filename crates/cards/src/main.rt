@@ -3,6 +3,7 @@
 
 use std::io;
 use store::{PageStore, RowStore, StoreFault, TwinBoards, Watched, clear_page, copy_page};
+use store_tests::rising;
 
 // what a new memory holds
 const OLD: u8 = 0xAA;
@@ -55,15 +56,6 @@ fn work<S: PageStore>(rt: &impl Print, store: &mut S) -> io::Result<()> {
     let mut page = [0xEE; 64];
     tell(rt, "read page 0", store.read(0, &mut page))?;
     show(rt, "what was read", &page)
-}
-
-// The page 00 01 02 .. 3F.
-fn rising() -> [u8; 64] {
-    let mut page = [0; 64];
-    for i in 0..64u8 {
-        page[i as usize] = i;
-    }
-    page
 }
 
 // A line on one step: what was asked for, and the answer.

@@ -1,75 +1,54 @@
 // Shows how points are coded: reads one point a line from standard input, two numbers for a lay point (course and shog) or three for a bar point (course, bar and shog), and prints the steps taken.
 #![tactic(auto)]
 
-ghost use Rattle.kinds.specs.Bar.{bar_kind};
 ghost use Rattle.kinds.specs.Kind.{On};
-ghost use Rattle.kinds.specs.Lay.{lay_kind};
 
 use kinds::bar::BarPoint;
 use kinds::kind::PointKind;
 use kinds::lay::LayPoint;
 use kinds::points::{bits, depth};
-use std::io;
-use std::io::{BufRead, BufReader};
-use std::num::IntErrorKind;
+use query::coordinates::Coordinates;
+use std::io::BufReader;
+use std::{fmt, io};
+use words::{lines, number};
 
-// What a line of the input holds.
-#[derive(Clone, Copy)]
-enum Line {
-    Lay(LayPoint),
-    Bar(BarPoint),
-    // numbers, one of them off its axis
+// Why a line is not shown.
+#[derive(Drop)]
+enum Unshown {
+    // a number is off its axis
     OffAxis,
-    // anything else
+    // anything else than two or three whole numbers
     NoPoint,
+    Failed(io::Error),
 }
 
-// A whole number. One that is too large for 64 bits becomes the greatest or the smallest, which is off every axis.
-fn number(word: &str) -> Option<i64> {
-    match word.parse::<i64>() {
-        Ok(n) => Some(n),
-        Err(error) => match *error.kind() {
-            IntErrorKind::PosOverflow => Some(i64::MAX),
-            IntErrorKind::NegOverflow => Some(i64::MIN),
-            _ => None,
-        },
+impl From<io::Error> for Unshown {
+    fn from(error: io::Error) -> Unshown {
+        Unshown::Failed(error)
     }
 }
 
-fn lay_line(course: i64, shog: i64) -> Line {
-    let (Ok(course), Ok(shog)) = (u16::try_from(course), i16::try_from(shog)) else {
-        return Line::OffAxis;
-    };
-    Line::Lay(LayPoint { course, shog })
+// A kind whose points the program shows.
+trait Shown: Coordinates + fmt::Display {
+    // Prints what the point is called, and its raised values.
+    fn show_raised(&self, rt: &HostRuntime) -> io::Result<()>
+        requires { On Self.PointKind.kind self.now };
 }
 
-fn bar_line(course: i64, bar: i64, shog: i64) -> Line {
-    let (Ok(course), Ok(bar), Ok(shog)) = (
-        u16::try_from(course),
-        u16::try_from(bar),
-        i16::try_from(shog),
-    ) else {
-        return Line::OffAxis;
-    };
-    Line::Bar(BarPoint { course, bar, shog })
+impl Shown for LayPoint {
+    fn show_raised(&self, rt: &HostRuntime) -> io::Result<()> {
+        let [course, shog] = self.raised();
+        println!(rt; "lay point, {self}")?;
+        println!(rt; "  raised course {course}, shog {shog}")
+    }
 }
 
-// The point of a line's words, if they are two or three whole numbers.
-fn read_line(text: &str) -> Line {
-    let mut words = text.split_whitespace();
-    let (Some(a), Some(b)) = (words.next(), words.next()) else {
-        return Line::NoPoint;
-    };
-    let (Some(a), Some(b)) = (number(a), number(b)) else {
-        return Line::NoPoint;
-    };
-    let Some(c) = words.next() else {
-        return lay_line(a, b);
-    };
-    let (Some(c), None) = (number(c), words.next()) else {
-        return Line::NoPoint;
-    };
-    bar_line(a, b, c)
+impl Shown for BarPoint {
+    fn show_raised(&self, rt: &HostRuntime) -> io::Result<()> {
+        let [course, bar, shog] = self.raised();
+        println!(rt; "bar point, {self}")?;
+        println!(rt; "  raised course {course}, bar {bar}, shog {shog}")
+    }
 }
 
 // The code of a point, in decimal and in W bits, and how many first bits it shares with the point before, if there is one of the kind.
@@ -77,6 +56,7 @@ fn show_code<K: PointKind>(rt: &HostRuntime, before: Option<K>, point: K) -> io:
     requires { On K.PointKind.kind point }
 {
     let code = point.code();
+    // no `From` makes a `usize` of a `u32`
     let width = bits::<K>() as usize;
     println!(rt; "  code {code}")?;
     println!(rt; "  bits {code:0width$b}")?;
@@ -89,61 +69,45 @@ fn show_code<K: PointKind>(rt: &HostRuntime, before: Option<K>, point: K) -> io:
     println!(rt; "  no point of this kind in the line before")
 }
 
-fn show_lay(rt: &HostRuntime, before: Line, point: LayPoint) -> io::Result<()>
-    requires { On lay_kind point }
-{
-    let [course, shog] = point.raised();
-    println!(rt; "lay point, {point}")?;
-    println!(rt; "  raised course {course}, shog {shog}")?;
-    let other = if let Line::Lay(other) = before {
-        Some(other)
-    } else {
-        None
-    };
-    show_code(rt, other, point)
+// Prints the steps of the point of a kind that has these coordinates.
+fn show_point<K: Shown>(
+    rt: &HostRuntime,
+    before: &[i64],
+    coordinates: &[i64],
+) -> Result<(), Unshown> {
+    let point = K::at(coordinates).ok_or(Unshown::OffAxis)?;
+    point.show_raised(rt)?;
+    show_code(rt, K::at(before), point)?;
+    Ok(())
 }
 
-fn show_bar(rt: &HostRuntime, before: Line, point: BarPoint) -> io::Result<()>
-    requires { On bar_kind point }
-{
-    let [course, bar, shog] = point.raised();
-    println!(rt; "bar point, {point}")?;
-    println!(rt; "  raised course {course}, bar {bar}, shog {shog}")?;
-    let other = if let Line::Bar(other) = before {
-        Some(other)
-    } else {
-        None
-    };
-    show_code(rt, other, point)
-}
-
-// Prints the steps of a line, or what is wrong with it.
-fn show(rt: &HostRuntime, before: Line, line: Line, text: &str) -> io::Result<()> {
-    match line {
-        Line::Lay(point) if point.on_axes() => show_lay(rt, before, point),
-        Line::Bar(point) if point.on_axes() => show_bar(rt, before, point),
-        Line::NoPoint => println!(rt;
-            "\"{text}\" is no point: two whole numbers make a lay point, three a bar point"
-        ),
-        _ => println!(rt; "\"{text}\" is off an axis"),
+// Prints the steps of a line's numbers, behind the numbers of the line before.
+fn show(rt: &HostRuntime, before: &[i64], numbers: &[i64]) -> Result<(), Unshown> {
+    match numbers.len() {
+        2 => show_point::<LayPoint>(rt, before, numbers),
+        3 => show_point::<BarPoint>(rt, before, numbers),
+        _ => Err(Unshown::NoPoint),
     }
 }
 
 fn main(rt: HostRuntime) -> io::Result<()> {
     let heap = rt.alloc();
-    let mut input = BufReader::new(heap, rt.stdin())?;
-    let mut before = Line::NoPoint;
-    for count in 1..u64::MAX {
-        let mut bytes = Vec::new(heap);
-        if input.read_until(b'\n', &mut bytes)? == 0 {
-            break;
-        }
-        let owned = String::from_utf8_lossy(heap, &bytes)?;
-        let text = owned.as_str().trim();
-        let line = read_line(text);
+    let mut before = Vec::new(heap);
+    for (count, line) in (1u64..).zip(lines(heap, BufReader::new(heap, rt.stdin())?)) {
+        let line = line?;
+        let text = line.as_str();
         print!(rt; "line {count}: ")?;
-        show(&rt, before, line, text)?;
-        before = line;
+        let numbers: Option<Vec<i64>> = text.split_whitespace().map(number).collect(heap)?;
+        let numbers = numbers.unwrap_or(Vec::new(heap));
+        match show(&rt, &before, &numbers) {
+            Ok(()) => {}
+            Err(Unshown::OffAxis) => println!(rt; "\"{text}\" is off an axis")?,
+            Err(Unshown::NoPoint) => println!(rt;
+                "\"{text}\" is no point: two whole numbers make a lay point, three a bar point"
+            )?,
+            Err(Unshown::Failed(error)) => return Err(error),
+        }
+        before = numbers;
     }
     Ok(())
 }

@@ -32,8 +32,8 @@ fn opened(
     byte: u8,
 ) -> Result<Draft<LayPoint, Watched<RowStore>>, Fail> {
     let mut bytes = CARD.to_vec(rt.alloc())?;
-    if place < bytes.len() {
-        bytes[place] = byte;
+    if let Some(old) = bytes.get_mut(place) {
+        *old = byte;
     }
     Ok(Draft::open(Watched::new(RowStore::new(bytes))))
 }

@@ -1,21 +1,44 @@
 // Turns shogs into whole needles: reads one shog a line from standard input, and prints the step taken for each.
 #![tactic(auto)]
 
-use needle::{join, split};
+use needle::{Needles, join, split};
 use refusal::Refusal;
 use std::io;
-use std::io::{BufRead, BufReader};
-use std::num::IntErrorKind;
+use std::io::BufReader;
+use std::num::{IntErrorKind, ParseIntError};
+use words::lines;
 
-// What a line of the input holds.
+// Why a line of the input is refused.
 #[derive(Clone, Copy)]
-enum Line {
-    // a number of half needles
-    Shog(i16),
-    // a number that is too large for any shog
-    OffAxis,
-    // no number at all
+enum Unsplit {
+    Refused(Refusal),
     NoNumber,
+}
+
+impl From<Refusal> for Unsplit {
+    fn from(refusal: Refusal) -> Unsplit {
+        Unsplit::Refused(refusal)
+    }
+}
+
+impl From<ParseIntError> for Unsplit {
+    // A number that is too large for any shog is off the axis.
+    fn from(error: ParseIntError) -> Unsplit {
+        match *error.kind() {
+            IntErrorKind::PosOverflow | IntErrorKind::NegOverflow => {
+                Unsplit::Refused(Refusal::OffAxis)
+            }
+            _ => Unsplit::NoNumber,
+        }
+    }
+}
+
+// A shog, its needles, and the shog that they join to.
+#[derive(Clone, Copy)]
+struct Turned {
+    shog: i16,
+    needles: Needles,
+    again: i16,
 }
 
 // How many lines were read, and what came of them.
@@ -26,68 +49,54 @@ struct Tally {
     refused: u64,
 }
 
-// The number in a line, with blanks around it passed over.
-fn read_line(text: &str) -> Line {
-    match text.parse::<i16>() {
-        Ok(shog) => Line::Shog(shog),
-        Err(error) => match *error.kind() {
-            IntErrorKind::PosOverflow => Line::OffAxis,
-            IntErrorKind::NegOverflow => Line::OffAxis,
-            _ => Line::NoNumber,
-        },
-    }
-}
-
-// Splits a shog, joins it again, and prints both.
-fn show(rt: &HostRuntime, number: u64, shog: i16) -> io::Result<Result<(), Refusal>> {
-    let needles = match split(shog) {
-        Ok(needles) => needles,
-        Err(refusal) => return Ok(Err(refusal)),
-    };
-    match join(needles.whole, needles.half) {
-        Ok(again) => {
-            println!(rt; "line {number}: shog {shog} is {needles}; joined again {again}")?;
-            Ok(Ok(()))
-        }
-        Err(refusal) => Ok(Err(refusal)),
-    }
+// Splits the shog of a line, and joins it again.
+fn turn(text: &str) -> Result<Turned, Unsplit> {
+    let shog = text.parse::<i16>()?;
+    let needles = split(shog)?;
+    let again = join(needles.whole, needles.half)?;
+    Ok(Turned {
+        shog,
+        needles,
+        again,
+    })
 }
 
 // One line: its step, or its refusal.
 fn step(rt: &HostRuntime, tally: &mut Tally, text: &str) -> io::Result<()> {
-    let number = tally.read.saturating_add(1);
-    tally.read = number;
-    let line = read_line(text);
-    let answer = match line {
-        Line::Shog(shog) => show(rt, number, shog)?,
-        _ => Err(Refusal::OffAxis),
-    };
-    let Err(refusal) = answer else {
-        tally.split = tally.split.saturating_add(1);
-        return Ok(());
+    tally.read = tally.read.saturating_add(1);
+    let number = tally.read;
+    let why = match turn(text) {
+        Ok(
+            Turned {
+                shog,
+                needles,
+                again,
+            },
+        ) => {
+            tally.split = tally.split.saturating_add(1);
+            return println!(rt; "line {number}: shog {shog} is {needles}; joined again {again}");
+        }
+        Err(why) => why,
     };
     tally.refused = tally.refused.saturating_add(1);
-    if let Line::NoNumber = line {
-        return println!(rt; "line {number}: {refusal}: \"{text}\" is no number");
+    match why {
+        Unsplit::Refused(refusal) => println!(rt; "line {number}: {refusal}: {text}"),
+        Unsplit::NoNumber => println!(rt;
+            "line {number}: {}: \"{text}\" is no number",
+            Refusal::OffAxis
+        ),
     }
-    println!(rt; "line {number}: {refusal}: {text}")
 }
 
 fn main(rt: HostRuntime) -> io::Result<()> {
     let heap = rt.alloc();
-    let mut input = BufReader::new(heap, rt.stdin())?;
     let mut tally = Tally {
         read: 0,
         split: 0,
         refused: 0,
     };
-    for _ in 0..u64::MAX {
-        let mut line = Vec::new(heap);
-        if input.read_until(b'\n', &mut line)? == 0 {
-            break;
-        }
-        let text = String::from_utf8_lossy(heap, &line)?;
-        step(&rt, &mut tally, text.as_str().trim())?;
+    for line in lines(heap, BufReader::new(heap, rt.stdin())?) {
+        step(&rt, &mut tally, line?.as_str())?;
     }
     let Tally {
         read,

@@ -16,35 +16,25 @@ mod picture;
 use picture::{RECORD, picture};
 
 // How much of the input is read, and how many pages the card has.
-const INPUT: usize = 16000;
+const INPUT: u64 = 16000;
 
 const PAGES: usize = 500;
 
 // The first bytes of standard input.
 fn read_input(rt: &HostRuntime) -> io::Result<Vec<u8>> {
-    let mut input = rt.stdin();
     let mut bytes = Vec::new(rt.alloc());
-    for _ in 0..u64::MAX {
-        let mut chunk = [0; 1000];
-        let count = input.read(&mut chunk)?;
-        if count == 0 || bytes.len() >= INPUT {
-            break;
-        }
-        let part = &chunk[..];
-        bytes.extend_from_slice(&part[0..count])?;
-    }
-    bytes.truncate(INPUT);
+    rt.stdin().take(INPUT).read_to_end(&mut bytes)?;
     Ok(bytes)
 }
 
 // A put for each whole point, and then the outline.
 fn calls(heap: Global, bytes: &[u8]) -> Result<Vec<Call<LayPoint>>, AllocError> {
     let mut calls = Vec::new(heap);
-    for i in 0..bytes.len() / 4 {
-        let at = 4 * i;
+    let (points, _broken) = bytes.as_chunks::<4>();
+    for &[a, b, c, d] in points {
         let point = LayPoint {
-            course: u16::from_le_bytes([bytes[at], bytes[at + 1]]),
-            shog: i16::from_le_bytes([bytes[at + 2], bytes[at + 3]]),
+            course: u16::from_le_bytes([a, b]),
+            shog: i16::from_le_bytes([c, d]),
         };
         calls.push(Call::Put(point))?;
     }

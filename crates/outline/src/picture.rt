@@ -1,75 +1,105 @@
 // A picture of a tree: a line for each page, set in under the page above it.
 use kinds::kind::PointKind;
 use kinds::lay::LayPoint;
-use std::io;
+use std::{fmt, io};
 
 // How many bytes a record of an outline of lay points has.
 pub const RECORD: usize = 14;
 
+// What a page of the tree is.
+#[derive(Clone, Copy, PartialEq, Eq)]
+enum Sort {
+    Data,
+    Directory,
+}
+
+impl From<u8> for Sort {
+    // A record says it by its first byte: 2 for a directory page.
+    fn from(byte: u8) -> Sort {
+        match byte {
+            2 => Sort::Directory,
+            _ => Sort::Data,
+        }
+    }
+}
+
+impl fmt::Display for Sort {
+    fn fmt<W: fmt::Write>(&self, f: &mut fmt::Formatter<W>) -> fmt::Result {
+        f.write_str(match self {
+            Sort::Data => "data",
+            Sort::Directory => "directory",
+        })
+    }
+}
+
 // A page of the tree, as a record says it.
 #[derive(Clone, Copy)]
 struct Record {
-    directory: bool,
+    sort: Sort,
     points: u32,
     shared: u8,
     low: LayPoint,
     high: LayPoint,
 }
 
-// The record at a place of an outline, none where there is none.
-fn read_record(bytes: &[u8], at: usize) -> Option<Record> {
-    if at > bytes.len() || bytes.len() - at < RECORD {
-        return None;
+impl Record {
+    // What 14 bytes say, none where they are no record.
+    fn read(bytes: &[u8]) -> Option<Record> {
+        let (&[sort, a, b, c, d, shared], corners) = bytes.split_first_chunk::<6>()?;
+        if corners.len() != 8 {
+            return None;
+        }
+        let (low, high) = corners.split_at(4);
+        Some(Record {
+            sort: Sort::from(sort),
+            points: u32::from_le_bytes([a, b, c, d]),
+            shared,
+            low: <LayPoint as PointKind>::read(low)?,
+            high: <LayPoint as PointKind>::read(high)?,
+        })
     }
-    let bytes = &bytes[at..at + RECORD];
-    let low = <LayPoint as PointKind>::read(&bytes[6..10])?;
-    let high = <LayPoint as PointKind>::read(&bytes[10..14])?;
-    Some(Record {
-        directory: bytes[0] == 2,
-        points: u32::from_le_bytes([bytes[1], bytes[2], bytes[3], bytes[4]]),
-        shared: bytes[5],
-        low,
-        high,
-    })
+}
+
+// Which halves of a directory page are still to come.
+#[derive(Clone, Copy, PartialEq, Eq)]
+enum ToCome {
+    Both,
+    High,
 }
 
 // One page is shown: it was one of the halves still to come. Directory pages both of whose halves were shown are done with.
-fn shown(open: &mut Vec<u32>) {
-    for _ in 0..64 {
-        match open.pop() {
-            Some(2) => {
-                open.push_reserved(1);
-                return;
-            }
-            Some(_) => {}
-            None => {
-                return;
-            }
+fn shown(open: &mut Vec<ToCome>) {
+    match open.iter().rposition(|halves| *halves == ToCome::Both) {
+        Some(last) => {
+            open.truncate(last + 1);
+            open[last] = ToCome::High;
         }
+        None => open.clear(),
     }
 }
 
 // Prints the tree that an outline says.
 pub fn picture(rt: &HostRuntime, bytes: &[u8]) -> io::Result<()> {
-    // for each directory page above, how many halves are still to come
-    let mut open: Vec<u32> = Vec::new(rt.alloc());
-    for i in 0..bytes.len() / RECORD {
-        let Some(page) = read_record(bytes, i * RECORD) else {
+    // for each directory page above, what is still to come
+    let mut open = Vec::new(rt.alloc());
+    for record in bytes.chunks_exact(RECORD) {
+        let Some(page) = Record::read(record) else {
             return Ok(());
         };
-        for _ in 0..open.len() {
+        for _ in &open {
             print!(rt; "  ")?;
         }
-        let sort = if page.directory { "directory" } else { "data" };
-        let (points, shared) = (page.points, page.shared);
-        println!(rt;
-            "{sort}: points {points}, shared bits {shared}, {} to {}",
-            page.low, page.high
-        )?;
-        if page.directory {
-            open.push(2)?;
-        } else {
-            shown(&mut open);
+        let Record {
+            sort,
+            points,
+            shared,
+            low,
+            high,
+        } = page;
+        println!(rt; "{sort}: points {points}, shared bits {shared}, {low} to {high}")?;
+        match sort {
+            Sort::Directory => open.push(ToCome::Both)?,
+            Sort::Data => shown(&mut open),
         }
     }
     Ok(())

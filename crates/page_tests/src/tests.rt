@@ -1,5 +1,5 @@
 // What the encoders write and what the views read, held to the sample pages.
-ghost use Rattle.std.specs.Prelude.{◌≡◌};
+ghost use Rattle.std.specs.Prelude.{◌≡◌, ◌<◌};
 
 use crate::samples::*;
 use kinds::bar::BarPoint;
@@ -12,6 +12,7 @@ use page::entry::Entry;
 use page::fault::PageFault;
 use page::free_page::next_free;
 use page::head_page::{Head, HeadView};
+use std::array;
 use std::test::Fail;
 
 fn lay(course: u16, shog: i16) -> LayPoint
@@ -28,26 +29,19 @@ fn bar(course: u16, bar: u16, shog: i16) -> BarPoint
 
 // The points of a full data page.
 fn full_lay() -> [LayPoint; 15] {
-    let mut points = [lay(0, -14); 15];
-    for i in 0..15 {
-        points[i] = LayPoint {
-            course: i as u16,
-            shog: 2 * (i as i16) - 14,
-        };
-    }
-    points
+    array::from_fn(
+        |place|
+            requires { place < 15 }
+        { lay(place as u16, 2 * (place as i16) - 14) },
+    )
 }
 
 fn full_bar() -> [BarPoint; 10] {
-    let mut points = [bar(0, 0, 2047); 10];
-    for i in 0..10 {
-        points[i] = BarPoint {
-            course: i as u16,
-            bar: 7 * (i as u16),
-            shog: 2047 - i as i16,
-        };
-    }
-    points
+    array::from_fn(
+        |place|
+            requires { place < 10 }
+        { bar(place as u16, 7 * (place as u16), 2047 - place as i16) },
+    )
 }
 
 #[test]
@@ -249,34 +243,26 @@ fn bar_entries_are_read(rt: HostRuntime) -> Result<(), Fail> {
     Ok(())
 }
 
-// What the fault of a page that was read is.
-fn fault<T: Drop>(read: Result<T, PageFault>) -> Option<PageFault> {
-    match read {
-        Ok(_) => None,
-        Err(fault) => Some(fault),
-    }
-}
-
 #[test]
 fn kinds_are_told_apart(rt: HostRuntime) {
     assert_eq!(rt;
-        fault(next_free::<LayPoint>(3, LAY_DATA)),
+        next_free::<LayPoint>(3, LAY_DATA).err(),
         Some(PageFault::Kind(3))
     );
     assert_eq!(rt;
-        fault(DataView::<BarPoint>::new(4, LAY_DATA)),
+        DataView::<BarPoint>::new(4, LAY_DATA).err(),
         Some(PageFault::Kind(4))
     );
     assert_eq!(rt;
-        fault(DataView::<LayPoint>::new(5, LAY_DIRECTORY)),
+        DataView::<LayPoint>::new(5, LAY_DIRECTORY).err(),
         Some(PageFault::Kind(5))
     );
     assert_eq!(rt;
-        fault(DirectoryView::<LayPoint>::new(6, BAR_DIRECTORY)),
+        DirectoryView::<LayPoint>::new(6, BAR_DIRECTORY).err(),
         Some(PageFault::Kind(6))
     );
     assert_eq!(rt;
-        fault(HeadView::<BarPoint>::new(0, LAY_HEAD)),
+        HeadView::<BarPoint>::new(0, LAY_HEAD).err(),
         Some(PageFault::Kind(0))
     );
 }
@@ -286,25 +272,25 @@ fn wrong_fields_are_refused(rt: HostRuntime) {
     let mut page = *LAY_DATA;
     page[1] = 0;
     assert_eq!(rt;
-        fault(DataView::<LayPoint>::new(1, &page)),
+        DataView::<LayPoint>::new(1, &page).err(),
         Some(PageFault::Field(1))
     );
     page[1] = 16;
     assert_eq!(rt;
-        fault(DataView::<LayPoint>::new(2, &page)),
+        DataView::<LayPoint>::new(2, &page).err(),
         Some(PageFault::Field(2))
     );
     page[1] = 4;
     assert_eq!(rt;
-        fault(DataView::<LayPoint>::new(3, &page)),
+        DataView::<LayPoint>::new(3, &page).err(),
         Some(PageFault::Field(3))
     );
     let mut deep = *BAR_DIRECTORY;
     deep[1] = 33;
-    assert_eq!(rt; fault(DirectoryView::<BarPoint>::new(4, &deep)), None);
+    assert_eq!(rt; DirectoryView::<BarPoint>::new(4, &deep).err(), None);
     deep[1] = 34;
     assert_eq!(rt;
-        fault(DirectoryView::<BarPoint>::new(4, &deep)),
+        DirectoryView::<BarPoint>::new(4, &deep).err(),
         Some(PageFault::Field(4))
     );
     let mut crossed = *LAY_DIRECTORY;
@@ -312,13 +298,13 @@ fn wrong_fields_are_refused(rt: HostRuntime) {
     crossed[14] = 0xff;
     crossed[15] = 0xf7;
     assert_eq!(rt;
-        fault(DirectoryView::<LayPoint>::new(5, &crossed)),
+        DirectoryView::<LayPoint>::new(5, &crossed).err(),
         Some(PageFault::Field(5))
     );
     let mut long = *BAR_HEAD;
     long[63] = 1;
     assert_eq!(rt;
-        fault(HeadView::<BarPoint>::new(0, &long)),
+        HeadView::<BarPoint>::new(0, &long).err(),
         Some(PageFault::Field(0))
     );
 }

@@ -12,27 +12,29 @@ use page::free_page::next_free;
 use page::head_page::read_head;
 use page::tree_page::{Node, read_node};
 use page_tests::samples::*;
-use std::io;
+use std::{fmt, io};
 
-// Which page is expected where a page is read.
+// Why a changed page is not another page.
 #[derive(Clone, Copy)]
-enum Place {
-    Chain,
-    Tree,
-    Head,
-}
-
-// What became of a changed page.
-#[derive(Clone, Copy)]
-enum Outcome {
-    Page,
+enum Unread {
     OtherKind,
     WrongField,
+    // it is read, and what was read is not written as its bytes
     Misread,
 }
 
+impl From<PageFault> for Unread {
+    fn from(fault: PageFault) -> Unread {
+        match fault {
+            PageFault::Field(_) => Unread::WrongField,
+            PageFault::Kind(_) => Unread::OtherKind,
+            PageFault::Store(_) => Unread::Misread,
+        }
+    }
+}
+
 // How often each came.
-#[derive(Clone, Copy)]
+#[derive(Clone, Copy, Default)]
 struct Tally {
     pages: u32,
     kinds: u32,
@@ -40,162 +42,146 @@ struct Tally {
     misread: u32,
 }
 
+impl Tally {
+    // Counts what became of one more changed page.
+    fn count(&mut self, read: Result<(), Unread>) {
+        let counter = match read {
+            Ok(()) => &mut self.pages,
+            Err(Unread::OtherKind) => &mut self.kinds,
+            Err(Unread::WrongField) => &mut self.fields,
+            Err(Unread::Misread) => &mut self.misread,
+        };
+        *counter = counter.wrapping_add(1);
+    }
+}
+
+impl fmt::Display for Tally {
+    fn fmt<W: fmt::Write>(&self, f: &mut fmt::Formatter<W>) -> fmt::Result {
+        let Tally {
+            pages,
+            kinds,
+            fields,
+            misread,
+        } = *self;
+        write!(
+            f,
+            "{pages} other pages, {kinds} of another kind, {fields} with a wrong field, {misread} misread"
+        )
+    }
+}
+
 // A page that was read is written again as the bytes that it was read from.
-fn compared(written: &[u8; 64], bytes: &[u8; 64]) -> Outcome {
+fn compared(written: &[u8; 64], bytes: &[u8; 64]) -> Result<(), Unread> {
     if *written == *bytes {
-        Outcome::Page
+        Ok(())
     } else {
-        Outcome::Misread
+        Err(Unread::Misread)
     }
 }
 
-fn refused(fault: PageFault) -> Outcome {
-    match fault {
-        PageFault::Field(_) => Outcome::WrongField,
-        PageFault::Kind(_) => Outcome::OtherKind,
-        PageFault::Store(_) => Outcome::Misread,
-    }
+fn free_again<K: PointKind>(bytes: &[u8; 64]) -> Result<(), Unread> {
+    let next = next_free::<K>(1, bytes)?;
+    compared(&free_page::<K>(next), bytes)
 }
 
-fn free_again<K: PointKind>(bytes: &[u8; 64]) -> Outcome {
-    match next_free::<K>(1, bytes) {
-        Ok(next) => compared(&free_page::<K>(next), bytes),
-        Err(fault) => refused(fault),
-    }
+fn head_again<K: PointKind>(bytes: &[u8; 64]) -> Result<(), Unread> {
+    let head = read_head::<K>(0, bytes)?;
+    compared(&head_page(&head), bytes)
 }
 
-fn head_again<K: PointKind>(bytes: &[u8; 64]) -> Outcome {
-    match read_head::<K>(0, bytes) {
-        Ok(head) => compared(&head_page(&head), bytes),
-        Err(fault) => refused(fault),
-    }
-}
-
-fn data_again<K: PointKind>(bytes: &[u8; 64], room: &mut [K]) -> Outcome {
-    let view = match DataView::<K>::new(1, bytes) {
-        Ok(view) => view,
-        Err(fault) => return refused(fault),
-    };
+// The room for points is lent: a list for each change would make want of memory one more outcome.
+fn data_again<K: PointKind>(bytes: &[u8; 64], room: &mut [K]) -> Result<(), Unread> {
+    let view = DataView::<K>::new(1, bytes)?;
     let count = view.count();
     if count > room.len() || count > capacity::<K>() {
-        return Outcome::Misread;
+        return Err(Unread::Misread);
     }
-    for place in 0..count {
-        let Some(point) = view.point(place) else {
-            return Outcome::Misread;
-        };
-        room[place] = point;
+    let points = &mut room[..count];
+    for (place, point) in points.iter_mut().enumerate() {
+        *point = view.point(place).ok_or(Unread::Misread)?;
     }
-    compared(&data_page(&room[..count]), bytes)
+    compared(&data_page(points), bytes)
 }
 
-fn tree_again<K: PointKind>(bytes: &[u8; 64], room: &mut [K]) -> Outcome {
-    let node = match read_node::<K>(1, bytes) {
-        Ok(node) => node,
-        Err(fault) => return refused(fault),
-    };
-    let Node::Directory(fork) = node else {
+fn tree_again<K: PointKind>(bytes: &[u8; 64], room: &mut [K]) -> Result<(), Unread> {
+    let Node::Directory(fork) = read_node::<K>(1, bytes)? else {
         return data_again(bytes, room);
     };
-    let Ok(depth) = u8::try_from(fork.depth) else {
-        return Outcome::Misread;
-    };
+    let depth = u8::try_from(fork.depth).map_err(|_| Unread::Misread)?;
     compared(&directory_page(depth, &fork.low, &fork.high), bytes)
 }
 
-fn again<K: PointKind>(place: Place, bytes: &[u8; 64], room: &mut [K]) -> Outcome {
-    match place {
-        Place::Chain => free_again::<K>(bytes),
-        Place::Tree => tree_again(bytes, room),
-        Place::Head => head_again::<K>(bytes),
-    }
-}
-
-fn counted(tally: Tally, outcome: Outcome) -> Tally {
-    let mut next = tally;
-    match outcome {
-        Outcome::Page => next.pages = next.pages.wrapping_add(1),
-        Outcome::OtherKind => next.kinds = next.kinds.wrapping_add(1),
-        Outcome::WrongField => next.fields = next.fields.wrapping_add(1),
-        Outcome::Misread => next.misread = next.misread.wrapping_add(1),
-    }
-    next
-}
-
-// All 255 changes of each of the 64 bytes.
-fn changes<K: PointKind>(place: Place, page: &[u8; 64], room: &mut [K]) -> Tally {
-    let mut tally = Tally {
-        pages: 0,
-        kinds: 0,
-        fields: 0,
-        misread: 0,
-    };
-    for at in 0..64 {
-        for value in 0..256u32 {
-            let byte = value as u8;
-            if byte != page[at] {
-                let mut changed = *page;
-                changed[at] = byte;
-                tally = counted(tally, again(place, &changed, room));
-            }
+// All 255 changes of each of the 64 bytes, each read again.
+fn changes<F: FnMut(&[u8; 64]) -> Result<(), Unread>>(page: &[u8; 64], mut again: F) -> Tally
+    requires { F.IsAlwaysCallable again }
+{
+    let mut tally = Tally::default();
+    for (at, old) in page.iter().enumerate() {
+        for byte in (0..=u8::MAX).filter(|byte| byte != old) {
+            let mut changed = *page;
+            changed[at] = byte;
+            tally.count(again(&changed));
         }
     }
     tally
 }
 
-fn show(rt: &HostRuntime, name: &str, tally: Tally) -> io::Result<()> {
-    let Tally {
-        pages,
-        kinds,
-        fields,
-        misread,
-    } = tally;
-    println!(rt;
-        "{name}: {pages} other pages, {kinds} of another kind, {fields} with a wrong field, {misread} misread"
-    )
+// The sample pages of a kind, besides the free one.
+#[derive(Clone, Copy)]
+struct Samples {
+    data: &'static [u8; 64],
+    full: &'static [u8; 64],
+    directory: &'static [u8; 64],
+    empty_head: &'static [u8; 64],
+    head: &'static [u8; 64],
+}
+
+// Changes each page of a kind. The points of a page are read into the room.
+fn show<K: PointKind>(
+    rt: &HostRuntime,
+    kind: &str,
+    samples: Samples,
+    room: &mut [K],
+) -> io::Result<()> {
+    let free = changes(FREE, |bytes| free_again::<K>(bytes));
+    println!(rt; "{kind} free: {free}")?;
+    let trees = [
+        ("data", samples.data),
+        ("full data", samples.full),
+        ("directory", samples.directory),
+    ];
+    for (name, page) in trees {
+        let tally = changes(page, |bytes| tree_again(bytes, room));
+        println!(rt; "{kind} {name}: {tally}")?;
+    }
+    let heads = [("empty head", samples.empty_head), ("head", samples.head)];
+    for (name, page) in heads {
+        let tally = changes(page, |bytes| head_again::<K>(bytes));
+        println!(rt; "{kind} {name}: {tally}")?;
+    }
+    Ok(())
 }
 
 fn main(rt: HostRuntime) -> io::Result<()> {
-    let mut lay = [LayPoint { course: 0, shog: 0 }; 15];
-    show(&rt, "lay free", changes(Place::Chain, FREE, &mut lay))?;
-    show(&rt, "lay data", changes(Place::Tree, LAY_DATA, &mut lay))?;
-    show(
-        &rt,
-        "lay full data",
-        changes(Place::Tree, LAY_FULL, &mut lay),
-    )?;
-    show(
-        &rt,
-        "lay directory",
-        changes(Place::Tree, LAY_DIRECTORY, &mut lay),
-    )?;
-    show(
-        &rt,
-        "lay empty head",
-        changes(Place::Head, LAY_EMPTY_HEAD, &mut lay),
-    )?;
-    show(&rt, "lay head", changes(Place::Head, LAY_HEAD, &mut lay))?;
-    let mut bar = [BarPoint {
+    let lay = Samples {
+        data: LAY_DATA,
+        full: LAY_FULL,
+        directory: LAY_DIRECTORY,
+        empty_head: LAY_EMPTY_HEAD,
+        head: LAY_HEAD,
+    };
+    show(&rt, "lay", lay, &mut [LayPoint { course: 0, shog: 0 }; 15])?;
+    let bar = Samples {
+        data: BAR_DATA,
+        full: BAR_FULL,
+        directory: BAR_DIRECTORY,
+        empty_head: BAR_EMPTY_HEAD,
+        head: BAR_HEAD,
+    };
+    let origin = BarPoint {
         course: 0,
         bar: 0,
         shog: 0,
-    }; 10];
-    show(&rt, "bar free", changes(Place::Chain, FREE, &mut bar))?;
-    show(&rt, "bar data", changes(Place::Tree, BAR_DATA, &mut bar))?;
-    show(
-        &rt,
-        "bar full data",
-        changes(Place::Tree, BAR_FULL, &mut bar),
-    )?;
-    show(
-        &rt,
-        "bar directory",
-        changes(Place::Tree, BAR_DIRECTORY, &mut bar),
-    )?;
-    show(
-        &rt,
-        "bar empty head",
-        changes(Place::Head, BAR_EMPTY_HEAD, &mut bar),
-    )?;
-    show(&rt, "bar head", changes(Place::Head, BAR_HEAD, &mut bar))
+    };
+    show(&rt, "bar", bar, &mut [origin; 10])
 }

@@ -1,5 +1,5 @@
 -- The corners of a query's window.
-use Rattle.std.proofs.Common.{◌≡◌, ℕ, zero, suc, ◌+◌, ◌-◌, ◌^◌, ◌<◌, ◌≤◌, List, [], ◌∷◌, ◌++◌, map, length, get_or, take, set, ℤ, pos, ◌≤ℤ◌, sym, refl, ap, ◌∙◌, add-one, arith, take_all, pow_pos}
+use Rattle.std.proofs.Common.{◌≡◌, ℕ, zero, suc, ◌+◌, ◌^◌, ◌<◌, ◌≤◌, List, [], ◌∷◌, ◌++◌, map, length, get_or, take, set, ℤ, pos, ◌≤ℤ◌, sym, refl, ap, ◌∙◌, add-one, arith, take_all, pow_pos}
 use Rattle.std.proofs.lemmas.Int.{ints}
 use Rattle.std.proofs.lemmas.List.FromFn.{fill_by_all}
 use Rattle.std.proofs.lemmas.List.{take_more_set}
@@ -112,7 +112,7 @@ ends_step f axs cs i zs x z ha hc hz e same is =
     ∙ sym (ends_more f axs cs i a Any ha hc)
     ∙ ap (λ n. ends f axs (take n cs)) (sym (add-one i))
 
-pub ends_whole : (f : Axis → Choice → ℤ) (axs : List Axis) (cs : List Choice) (i : ℕ) (zs : List ℤ) → i ≡ length cs → take i zs ≡ ends f axs (take i cs) → take (length cs - 0) zs ≡ ends f axs cs
+pub ends_whole : (f : Axis → Choice → ℤ) (axs : List Axis) (cs : List Choice) (i : ℕ) (zs : List ℤ) → i ≡ length cs → take i zs ≡ ends f axs (take i cs) → take (length cs) zs ≡ ends f axs cs
 ends_whole f axs cs i zs n e =
-    let m : length cs - 0 ≡ i = omega arith in
+    let m : length cs ≡ i = omega arith in
     ap (λ j. take j zs) m ∙ e ∙ ap (ends f axs) (take_all i cs (omega arith))

@@ -35,25 +35,27 @@ pub fn window<K: Coordinates>(query: &[Choice]) -> Result<Window<K>, Refusal>
     ensures { Queried K.PointKind.kind query.now result }
 {
     let count = query.len();
+    // no heap in a call of the library: the ends stand in arrays, with room for the axes of any kind
     let mut low = [0; 4];
     let mut high = [0; 4];
     if count > 4 {
         return Err(Refusal::OffAxis);
     }
-    for i in 0..count {
-        let Some((least, greatest)) = K::span(i) else {
+    for (axis, choice) in query.iter().enumerate() {
+        // each refusal is written out here, as the proof does not close behind `?`
+        let Some((least, greatest)) = K::span(axis) else {
             return Err(Refusal::OffAxis);
         };
-        let (first, last) = query[i].ends(least, greatest);
-        low[i] = first;
-        high[i] = last;
+        let (first, last) = choice.ends(least, greatest);
+        low[axis] = first;
+        high[axis] = last;
     }
     let lows = &low[..];
     let highs = &high[..];
-    let Some(low) = K::at(&lows[0..count]) else {
+    let Some(low) = K::at(&lows[..count]) else {
         return Err(Refusal::OffAxis);
     };
-    let Some(high) = K::at(&highs[0..count]) else {
+    let Some(high) = K::at(&highs[..count]) else {
         return Err(Refusal::OffAxis);
     };
     Ok(Window { low, high })

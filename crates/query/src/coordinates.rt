@@ -26,15 +26,11 @@ impl Coordinates for LayPoint {
     }
 
     fn at(coordinates: &[i64]) -> Option<LayPoint> {
-        if coordinates.len() != 2 {
-            return None;
-        }
-        let Ok(course) = u16::try_from(coordinates[0]) else {
+        let [course, shog] = coordinates else {
             return None;
         };
-        let Ok(shog) = i16::try_from(coordinates[1]) else {
-            return None;
-        };
+        let course = u16::try_from(*course).ok()?;
+        let shog = i16::try_from(*shog).ok()?;
         let point = LayPoint { course, shog };
         if point.on_axes() { Some(point) } else { None }
     }
@@ -51,18 +47,12 @@ impl Coordinates for BarPoint {
     }
 
     fn at(coordinates: &[i64]) -> Option<BarPoint> {
-        if coordinates.len() != 3 {
-            return None;
-        }
-        let Ok(course) = u16::try_from(coordinates[0]) else {
+        let [course, bar, shog] = coordinates else {
             return None;
         };
-        let Ok(bar) = u16::try_from(coordinates[1]) else {
-            return None;
-        };
-        let Ok(shog) = i16::try_from(coordinates[2]) else {
-            return None;
-        };
+        let course = u16::try_from(*course).ok()?;
+        let bar = u16::try_from(*bar).ok()?;
+        let shog = i16::try_from(*shog).ok()?;
         let point = BarPoint { course, bar, shog };
         if point.on_axes() { Some(point) } else { None }
     }

@@ -6,27 +6,60 @@ use draft::calls::{Call, Reply};
 use kinds::bar::BarPoint;
 use kinds::kind::PointKind;
 use kinds::lay::LayPoint;
+use query::coordinates::Coordinates;
 use refusal::Refusal;
 use std::alloc::Global;
-use std::io::{BufRead, BufReader};
+use std::io::BufReader;
 use std::{fmt, io};
 use store::{PageStore, RowStore, Watched};
+use words::lines;
 
+mod said;
 mod spoken;
-mod words;
 
-use spoken::{Spoken, call_of};
-use words::{Said, Trouble, page_count};
+use said::{Trouble, Unsaid};
+use spoken::{Kind, begun, call_of};
 
 // The card of a session.
 type Card = Watched<RowStore>;
 
-// The draft of a session, if one was begun.
+// The draft that was begun last.
 #[derive(Drop)]
 enum Open {
-    Nothing,
     Lay(Draft<LayPoint, Card>),
     Bar(Draft<BarPoint, Card>),
+}
+
+// How many pages were read and written.
+#[derive(Clone, Copy)]
+struct Traffic {
+    read: u64,
+    wrote: u64,
+}
+
+impl Traffic {
+    // All that came to a card.
+    fn of(card: &Card) -> Traffic {
+        Traffic {
+            read: card.reads(),
+            wrote: card.writes(),
+        }
+    }
+
+    // What came after `before`.
+    fn since(self, before: Traffic) -> Traffic {
+        Traffic {
+            read: self.read.saturating_sub(before.read),
+            wrote: self.wrote.saturating_sub(before.wrote),
+        }
+    }
+}
+
+impl fmt::Display for Traffic {
+    fn fmt<W: fmt::Write>(&self, f: &mut fmt::Formatter<W>) -> fmt::Result {
+        let Traffic { read, wrote } = *self;
+        write!(f, "read {read}, wrote {wrote}")
+    }
 }
 
 // A blank card of so many pages.
@@ -34,43 +67,34 @@ fn blank(heap: Global, pages: usize) -> io::Result<Card> {
     Ok(Watched::new(RowStore::new(vec![in heap; 0; pages.saturating_mul(64)]?)))
 }
 
-// Begins a draft of a kind on a fresh card.
-fn begin(rt: &HostRuntime, open: &mut Open, kind: &str, pages: usize) -> io::Result<()> {
-    let card = blank(rt.alloc(), pages)?;
-    let refused = if kind == "lay" {
-        match Draft::<LayPoint, Card>::begin(card) {
-            Ok(draft) => {
-                *open = Open::Lay(draft);
-                None
-            }
-            Err((why, _card)) => Some(why),
+// Begins a draft of a kind on a fresh card, to be opened.
+fn begin<K: PointKind, F: FnOnce(Draft<K, Card>) -> Open>(
+    rt: &HostRuntime,
+    open: &mut Option<Open>,
+    pages: usize,
+    opened: F,
+) -> io::Result<()>
+    requires { F.IsAlwaysCallable opened }
+{
+    match Draft::begin(blank(rt.alloc(), pages)?) {
+        Ok(draft) => {
+            *open = Some(opened(draft));
+            println!(rt; "ok")
         }
-    } else {
-        match Draft::<BarPoint, Card>::begin(card) {
-            Ok(draft) => {
-                *open = Open::Bar(draft);
-                None
-            }
-            Err((why, _card)) => Some(why),
-        }
-    };
-    match refused {
-        None => println!(rt; "ok"),
-        Some(why) => println!(rt; "{why}"),
+        Err((why, _card)) => println!(rt; "{why}"),
     }
 }
 
-// `begin lay N` or `begin bar N`.
-fn begin_words(rt: &HostRuntime, open: &mut Open, words: &[&str]) -> io::Result<()> {
-    let [_, kind, count] = words else {
-        return println!(rt; "unreadable: begin takes a kind and a number of pages");
-    };
-    if *kind != "lay" && *kind != "bar" {
-        return println!(rt; "unreadable: the kind is lay or bar");
-    }
-    match page_count(*count) {
-        Some(pages) => begin(rt, open, *kind, pages),
-        None => println!(rt; "unreadable: the number of pages is a whole number"),
+// Prints why a command cannot be read.
+fn unreadable(rt: &HostRuntime, why: Trouble) -> io::Result<()> {
+    println!(rt; "unreadable: {why}")
+}
+
+// An answer that can be printed, or why there is none.
+fn show<T: fmt::Display + Drop>(rt: &HostRuntime, answer: Result<T, Refusal>) -> io::Result<()> {
+    match answer {
+        Ok(answer) => println!(rt; "{answer}"),
+        Err(why) => println!(rt; "{why}"),
     }
 }
 
@@ -78,17 +102,16 @@ fn begin_words(rt: &HostRuntime, open: &mut Open, words: &[&str]) -> io::Result<
 fn show_correction(
     rt: &HostRuntime,
     answer: Result<(), Refusal>,
-    read: u64,
-    wrote: u64,
+    traffic: Traffic,
 ) -> io::Result<()> {
     match answer {
-        Ok(()) => println!(rt; "ok: read {read}, wrote {wrote}"),
+        Ok(()) => println!(rt; "ok: {traffic}"),
         Err(why) => println!(rt; "{why}"),
     }
 }
 
 // The points that were listed, a line each.
-fn show_list<K: PointKind + fmt::Display>(
+fn show_list<K: fmt::Display>(
     rt: &HostRuntime,
     answer: Result<(usize, usize), Refusal>,
     buffer: &[K],
@@ -105,30 +128,20 @@ fn show_list<K: PointKind + fmt::Display>(
     }
 }
 
-// An answer that can be printed, or why there is none.
-fn show<T: fmt::Display + Drop>(rt: &HostRuntime, answer: Result<T, Refusal>) -> io::Result<()> {
-    match answer {
-        Ok(answer) => println!(rt; "{answer}"),
-        Err(why) => println!(rt; "{why}"),
-    }
-}
-
 // A reply, in words.
 fn show_reply<K: PointKind + fmt::Display>(
     rt: &HostRuntime,
     reply: Reply<K>,
-    read: u64,
-    wrote: u64,
+    traffic: Traffic,
 ) -> io::Result<()> {
     match reply {
-        Reply::Put(answer) => show_correction(rt, answer, read, wrote),
-        Reply::Take(answer) => show_correction(rt, answer, read, wrote),
-        Reply::Ask(Ok(true)) => println!(rt; "yes"),
-        Reply::Ask(Ok(false)) => println!(rt; "no"),
-        Reply::Ask(Err(why)) => println!(rt; "{why}"),
-        Reply::Pick(Ok(Some(point))) => println!(rt; "{point}"),
-        Reply::Pick(Ok(None)) => println!(rt; "none"),
-        Reply::Pick(Err(why)) => println!(rt; "{why}"),
+        Reply::Put(answer) => show_correction(rt, answer, traffic),
+        Reply::Take(answer) => show_correction(rt, answer, traffic),
+        Reply::Ask(answer) => show(rt, answer.map(|live| if live { "yes" } else { "no" })),
+        Reply::Pick(answer) => match answer.transpose() {
+            Some(answer) => show(rt, answer),
+            None => println!(rt; "none"),
+        },
         Reply::List(answer, buffer) => show_list(rt, answer, &buffer),
         Reply::Count(answer) => show(rt, answer),
         Reply::Tally(answer) => show(rt, answer),
@@ -138,21 +151,20 @@ fn show_reply<K: PointKind + fmt::Display>(
 }
 
 // Makes the call that the words say, and prints its reply.
-fn make<K: Spoken>(rt: &HostRuntime, draft: &mut Draft<K, Card>, words: &[&str]) -> io::Result<()> {
-    let call = match call_of::<K>(rt.alloc(), words)? {
-        Said::This(call) => call,
-        Said::OffAxis => {
-            return println!(rt; "{}", Refusal::OffAxis);
-        }
-        Said::Unreadable(why) => {
-            return println!(rt; "unreadable: {why}");
-        }
+fn make<K: Coordinates + Clone + fmt::Display>(
+    rt: &HostRuntime,
+    draft: &mut Draft<K, Card>,
+    words: &[&str],
+) -> io::Result<()> {
+    let call = match call_of::<K>(rt.alloc(), words) {
+        Ok(call) => call,
+        Err(Unsaid::Refused(why)) => return println!(rt; "{why}"),
+        Err(Unsaid::Unreadable(why)) => return unreadable(rt, why),
+        Err(Unsaid::OutOfMemory(error)) => return Err(io::Error::from(error)),
     };
-    let (reads, writes) = (draft.store().reads(), draft.store().writes());
+    let before = Traffic::of(draft.store());
     let reply = draft.call(call);
-    let read = draft.store().reads().saturating_sub(reads);
-    let wrote = draft.store().writes().saturating_sub(writes);
-    show_reply(rt, reply, read, wrote)
+    show_reply(rt, reply, Traffic::of(draft.store()).since(before))
 }
 
 // What is wrong with a command where no draft was begun.
@@ -165,35 +177,33 @@ fn without_draft(words: &[&str]) -> Trouble {
 }
 
 // One command, and its answer.
-fn step(rt: &HostRuntime, open: &mut Open, text: &str) -> io::Result<()> {
+fn step(rt: &HostRuntime, open: &mut Option<Open>, text: &str) -> io::Result<()> {
     println!(rt; "> {text}")?;
     let words: Vec<&str> = text.split_whitespace().collect(rt.alloc())?;
     let words = words.as_slice();
     if let ["begin", ..] = words {
-        return begin_words(rt, open, words);
+        return match begun(words) {
+            Ok((Kind::Lay, pages)) => begin(rt, open, pages, Open::Lay),
+            Ok((Kind::Bar, pages)) => begin(rt, open, pages, Open::Bar),
+            Err(why) => unreadable(rt, why),
+        };
     }
     match open {
-        Open::Nothing => println!(rt; "unreadable: {}", without_draft(words)),
-        Open::Lay(draft) => make(rt, draft, words),
-        Open::Bar(draft) => make(rt, draft, words),
+        None => unreadable(rt, without_draft(words)),
+        Some(Open::Lay(draft)) => make(rt, draft, words),
+        Some(Open::Bar(draft)) => make(rt, draft, words),
     }
 }
 
 fn main(rt: HostRuntime) -> io::Result<()> {
     let heap = rt.alloc();
-    let mut input = BufReader::new(heap, rt.stdin())?;
-    let mut open = Open::Nothing;
-    for _ in 0..u64::MAX {
-        let mut line = Vec::new(heap);
-        if input.read_until(b'\n', &mut line)? == 0 {
-            break;
+    let mut open = None;
+    for line in lines(heap, BufReader::new(heap, rt.stdin())?) {
+        let line = line?;
+        let text = line.as_str();
+        if !text.is_empty() && !text.starts_with('#') {
+            step(&rt, &mut open, text)?;
         }
-        let text = String::from_utf8_lossy(heap, &line)?;
-        let text = text.as_str().trim();
-        if text.is_empty() || text.starts_with('#') {
-            continue;
-        }
-        step(&rt, &mut open, text)?;
     }
     Ok(())
 }

@@ -1,103 +1,69 @@
 // Calls in words.
-use crate::words::{Said, Trouble, amount, bar_point, lay_point, window_of};
+use crate::said::{Trouble, Unsaid, amount, page_count, point_of, window_of};
 use draft::calls::Call;
-use kinds::bar::BarPoint;
-use kinds::kind::PointKind;
-use kinds::lay::LayPoint;
 use query::coordinates::Coordinates;
-use query::window::Window;
-use std::alloc::{AllocError, Global};
-use std::fmt;
+use std::alloc::Global;
+use std::str::FromStr;
 
-// A kind whose points can be said in words.
-pub trait Spoken: Coordinates + Clone + fmt::Display {
-    // The point that some words say.
-    fn point(words: &[&str]) -> Said<Self>;
-}
-
-impl Spoken for LayPoint {
-    fn point(words: &[&str]) -> Said<LayPoint> {
-        lay_point(words)
-    }
-}
-
-impl Spoken for BarPoint {
-    fn point(words: &[&str]) -> Said<BarPoint> {
-        bar_point(words)
-    }
-}
-
-// What a correction, or a call on a window, is called.
+// What points a draft is of.
 #[derive(Clone, Copy)]
-enum Verb {
-    Put,
-    Take,
-    Ask,
-    Pick,
-    Count,
+pub enum Kind {
+    Lay,
+    Bar,
 }
 
-// `put`, `take` or `ask`, and a point.
-fn point_call<K: Spoken>(verb: Verb, words: &[&str]) -> Said<Call<K>> {
-    match (K::point(words), verb) {
-        (Said::This(p), Verb::Put) => Said::This(Call::Put(p)),
-        (Said::This(p), Verb::Take) => Said::This(Call::Take(p)),
-        (Said::This(p), _) => Said::This(Call::Ask(p)),
-        (Said::OffAxis, _) => Said::OffAxis,
-        (Said::Unreadable(why), _) => Said::Unreadable(why),
+impl FromStr for Kind {
+    type Err = Trouble;
+
+    fn from_str(word: &str) -> Result<Kind, Trouble> {
+        match word {
+            "lay" => Ok(Kind::Lay),
+            "bar" => Ok(Kind::Bar),
+            _ => Err(Trouble::Kind),
+        }
     }
 }
 
-// `pick` or `count`, and a window.
-fn window_call<K: Spoken>(verb: Verb, words: &[&str]) -> Said<Call<K>> {
-    match (window_of::<K>(words), verb) {
-        (Said::This(window), Verb::Pick) => Said::This(Call::Pick(window)),
-        (Said::This(window), _) => Said::This(Call::Count(window)),
-        (Said::OffAxis, _) => Said::OffAxis,
-        (Said::Unreadable(why), _) => Said::Unreadable(why),
-    }
+// `begin lay N` or `begin bar N`: the kind, and the number of pages.
+pub fn begun(words: &[&str]) -> Result<(Kind, usize), Trouble> {
+    let [_, kind, pages] = words else {
+        return Err(Trouble::Begin);
+    };
+    let kind = kind.parse::<Kind>()?;
+    Ok((kind, page_count(*pages).ok_or(Trouble::Pages)?))
 }
 
-// `list SKIP PLACES`, and a window: at most 1,000 places.
-fn list_call<K: Spoken>(heap: Global, words: &[&str]) -> Result<Said<Call<K>>, AllocError> {
+// The most places that `list` is lent, and the most bytes that `outline` is.
+const MOST_PLACES: usize = 1000;
+
+const MOST_BYTES: usize = 1000000;
+
+// `list SKIP PLACES`, and a window.
+fn list_call<K: Coordinates + Clone>(heap: Global, words: &[&str]) -> Result<Call<K>, Unsaid> {
     let [skip, places, window @ ..] = words else {
-        return Ok(Said::Unreadable(Trouble::List));
+        return Err(Unsaid::Unreadable(Trouble::List));
     };
-    let (Some(skip), Some(places)) = (amount(*skip), amount(*places)) else {
-        return Ok(Said::Unreadable(Trouble::List));
-    };
-    match window_of::<K>(window) {
-        Said::This(window) => {
-            let buffer = vec![in heap; window.low; places.min(1000)]?;
-            Ok(Said::This(Call::List(window, skip, buffer)))
-        }
-        Said::OffAxis => Ok(Said::OffAxis),
-        Said::Unreadable(why) => Ok(Said::Unreadable(why)),
-    }
-}
-
-// `outline PLACES`: a buffer of so many bytes, at most 1,000,000.
-fn outline_call<K: Spoken>(heap: Global, word: &str) -> Result<Said<Call<K>>, AllocError> {
-    match amount(word) {
-        Some(places) => {
-            let buffer = vec![in heap; 0; places.min(1000000)]?;
-            Ok(Said::This(Call::Outline(buffer)))
-        }
-        None => Ok(Said::Unreadable(Trouble::Outline)),
-    }
+    let skip = amount(*skip).ok_or(Trouble::List)?;
+    let places = amount(*places).ok_or(Trouble::List)?;
+    let window = window_of::<K>(heap, window)?;
+    let buffer = vec![in heap; window.low; places.min(MOST_PLACES)]?;
+    Ok(Call::List(window, skip, buffer))
 }
 
 // The call that some words say.
-pub fn call_of<K: Spoken>(heap: Global, words: &[&str]) -> Result<Said<Call<K>>, AllocError> {
+pub fn call_of<K: Coordinates + Clone>(heap: Global, words: &[&str]) -> Result<Call<K>, Unsaid> {
     match words {
-        ["put", point @ ..] => Ok(point_call(Verb::Put, point)),
-        ["take", point @ ..] => Ok(point_call(Verb::Take, point)),
-        ["ask", point @ ..] => Ok(point_call(Verb::Ask, point)),
-        ["pick", window @ ..] => Ok(window_call(Verb::Pick, window)),
-        ["count", window @ ..] => Ok(window_call(Verb::Count, window)),
+        ["put", point @ ..] => Ok(Call::Put(point_of(heap, point)?)),
+        ["take", point @ ..] => Ok(Call::Take(point_of(heap, point)?)),
+        ["ask", point @ ..] => Ok(Call::Ask(point_of(heap, point)?)),
+        ["pick", window @ ..] => Ok(Call::Pick(window_of(heap, window)?)),
+        ["count", window @ ..] => Ok(Call::Count(window_of(heap, window)?)),
         ["list", rest @ ..] => list_call(heap, rest),
-        ["tally"] => Ok(Said::This(Call::Tally)),
-        ["outline", places] => outline_call(heap, *places),
-        _ => Ok(Said::Unreadable(Trouble::Command)),
+        ["tally"] => Ok(Call::Tally),
+        ["outline", places] => {
+            let places = amount(*places).ok_or(Trouble::Outline)?;
+            Ok(Call::Outline(vec![in heap; 0; places.min(MOST_BYTES)]?))
+        }
+        _ => Err(Unsaid::Unreadable(Trouble::Command)),
     }
 }

@@ -1,4 +1,4 @@
-use crate::write_lent;
+use crate::{rising, write_lent};
 use std::alloc::{AllocError, Global};
 use std::process::Abort;
 use std::test::Fail;
@@ -13,15 +13,6 @@ const EVEN: &[u8; 32] =
 
 const ODD: &[u8; 32] =
     b"\x01\x03\x05\x07\x09\x0B\x0D\x0F\x11\x13\x15\x17\x19\x1B\x1D\x1F\x21\x23\x25\x27\x29\x2B\x2D\x2F\x31\x33\x35\x37\x39\x3B\x3D\x3F";
-
-// the page 00 01 02 .. 3F
-fn rising() -> [u8; 64] {
-    let mut page = [0; 64];
-    for i in 0..64u8 {
-        page[i as usize] = i;
-    }
-    page
-}
 
 fn row(heap: Global, len: usize) -> Result<RowStore, AllocError> {
     Ok(RowStore::new(vec![in heap; OLD; len]?))

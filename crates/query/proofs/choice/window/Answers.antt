@@ -21,40 +21,40 @@ none : (f : Axis → Choice → ℤ) (axs : List Axis) → [] ≡ ends f axs []
 none f [] = refl
 none f (a ∷ axs) = refl
 
-pub loop-i-init : goal.loop-i-init
-loop-i-init g c = (refl, refl, omega arith, none low_of _, none high_of _)
+pub loop-axis-init : goal.loop-axis-init
+loop-axis-init g c = (refl, refl, omega arith, none low_of _, none high_of _)
 
 -- no such axis
 pub returns-in_default : goal.returns-in_default
 returns-in_default g c = (
   (λ q.
       let e = (ends_on g.K.PointKind.kind.axes c.args.query.now q).2 in
-      omega (arith, c.in_default.ensures, c.loop-i-test.true)),
+      omega (arith, c.in_default.ensures, c.loop-axis-test.true)),
   refl,
 )
 
-pub loop-i-preserved : goal.loop-i-preserved
-loop-i-preserved g c =
+pub loop-axis-preserved : goal.loop-axis-preserved
+loop-axis-preserved g c =
     let axs = g.K.PointKind.kind.axes in
     let cs = c.args.query.now in
-    let i = c.loop-i.i in
+    let i = c.loop-axis.axis in
     let e = c.ends-first.ensures in
     let f = c.in-Some.ensures in
-    let v = c.loop-i.invariant in
+    let v = c.loop-axis.invariant in
     let a : SFits w64 c.in-Some.least = search rules in
     let b : SFits w64 c.in-Some.greatest = search rules in
     let x : SFits w64 c.ends-first.result.0 = search rules in
     let y : SFits w64 c.ends-first.result.1 = search rules in
-    let t = c.loop-i-test.true in
+    let t = c.loop-axis-test.true in
     let u = c.if-count-gt4.false in
     let n = f.0 in
     let l = v.0 in
     let h = v.1 in (
-      length-set c.loop-i.low i _ ∙ v.0,
-      length-set c.loop-i.high i _ ∙ v.1,
+      length-set c.loop-axis.low i _ ∙ v.0,
+      length-set c.loop-axis.high i _ ∙ v.1,
       omega arith,
-      ends_step low_of axs cs i c.loop-i.low _ c.ends-first.result.0 n t (omega arith) v.3 (to_z-of_z w64 c.ends-first.result.0 x) (λ d. e.low ∙ ap (λ m. low_end m (get_or cs i Any)) (to_z-of_z w64 c.in-Some.least a ∙ (f.1 d).0)),
-      ends_step high_of axs cs i c.loop-i.high _ c.ends-first.result.1 n t (omega arith) v.4 (to_z-of_z w64 c.ends-first.result.1 y) (λ d. e.high ∙ ap (λ m. high_end m (get_or cs i Any)) (to_z-of_z w64 c.in-Some.greatest b ∙ (f.1 d).1)),
+      ends_step low_of axs cs i c.loop-axis.low _ c.ends-first.result.0 n t (omega arith) v.3 (to_z-of_z w64 c.ends-first.result.0 x) (λ d. e.low ∙ ap (λ m. low_end m (get_or cs i Any)) (to_z-of_z w64 c.in-Some.least a ∙ (f.1 d).0)),
+      ends_step high_of axs cs i c.loop-axis.high _ c.ends-first.result.1 n t (omega arith) v.4 (to_z-of_z w64 c.ends-first.result.1 y) (λ d. e.high ∙ ap (λ m. high_end m (get_or cs i Any)) (to_z-of_z w64 c.in-Some.greatest b ∙ (f.1 d).1)),
     )
 
 pub returns-in_default-at : goal.returns-in_default-at
@@ -62,8 +62,8 @@ returns-in_default-at g c = (
   (λ q.
       let axs = g.K.PointKind.kind.axes in
       let cs = c.args.query.now in
-      let n : c.loop-i.i ≡ length cs = omega arith in
-      c.in_default-at.ensures (subst (OnAxes axs) (sym (ends_whole low_of axs cs c.loop-i.i c.loop-i.low n c.loop-i.invariant.3)) (ends_on axs cs q).0)),
+      let n : c.loop-axis.axis ≡ length cs = omega arith in
+      c.in_default-at.ensures (subst (OnAxes axs) (sym (ends_whole low_of axs cs c.loop-axis.axis c.loop-axis.low n c.loop-axis.invariant.3)) (ends_on axs cs q).0)),
   refl,
 )
 
@@ -72,8 +72,8 @@ returns-in_default-at-2 g c = (
   (λ q.
       let axs = g.K.PointKind.kind.axes in
       let cs = c.args.query.now in
-      let n : c.loop-i.i ≡ length cs = omega arith in
-      c.in_default-at-2.ensures (subst (OnAxes axs) (sym (ends_whole high_of axs cs c.loop-i.i c.loop-i.high n c.loop-i.invariant.4)) (ends_on axs cs q).1)),
+      let n : c.loop-axis.axis ≡ length cs = omega arith in
+      c.in_default-at-2.ensures (subst (OnAxes axs) (sym (ends_whole high_of axs cs c.loop-axis.axis c.loop-axis.high n c.loop-axis.invariant.4)) (ends_on axs cs q).1)),
   refl,
 )
 
@@ -81,12 +81,12 @@ pub returns : goal.returns
 returns g c =
     let k = g.K.PointKind.kind in
     let cs = c.args.query.now in
-    let n : c.loop-i.i ≡ length cs = omega arith in
-    let few = c.loop-i.invariant.2 in
+    let n : c.loop-axis.axis ≡ length cs = omega arith in
+    let few = c.loop-axis.invariant.2 in
     let e = c.in-Some-at.ensures in
     let f = c.in-Some-at-2.ensures in
-    let l = e.1 ∙ ends_whole low_of k.axes cs c.loop-i.i c.loop-i.low n c.loop-i.invariant.3 in
-    let h = f.1 ∙ ends_whole high_of k.axes cs c.loop-i.i c.loop-i.high n c.loop-i.invariant.4 in
+    let l = e.1 ∙ ends_whole low_of k.axes cs c.loop-axis.axis c.loop-axis.low n c.loop-axis.invariant.3 in
+    let h = f.1 ∙ ends_whole high_of k.axes cs c.loop-axis.axis c.loop-axis.high n c.loop-axis.invariant.4 in
     let q = named_all k.axes cs (omega arith) (subst (OnAxes k.axes) l e.0) (subst (OnAxes k.axes) h f.0) in
     record {
       named = q;

@@ -5,14 +5,8 @@ use Rattle.kinds.specs.Bar.{bar_axes}
 use Rattle.query.proofs.Ends.{spelled}
 use Rattle.query.proofs.coordinates.BarPointCoordinates.at.Goals as goal
 
-pub returns-then-on_axes : goal.returns-then-on_axes
-returns-then-on_axes c =
-    let n : length c.args.coordinates.now ≡ 3 = omega arith in
-    let f = spelled 3 c.args.coordinates.now n in
-    (c.if-on_axes.ensures, grind (arith, ints, f))
-
 -- the coordinates are those of the point that was made of them
-shown : (c : goal.Else-on_axes) → ◌≡◌ {A = List ℤ} (pos c.in-Ok.course ∷ (pos c.in-Ok-try_from.bar ∷ (to_z w16 (of_z w16 c.in-Ok-try_from-2.shog) ∷ []))) c.args.coordinates.now
+shown : (c : goal.Else-on_axes) → ◌≡◌ {A = List ℤ} (pos c.in_ok-course.course ∷ (pos c.in_ok-bar.bar ∷ (to_z w16 (of_z w16 c.in_ok-shog.shog) ∷ []))) c.args.coordinates.now
 shown c =
     let n : length c.args.coordinates.now ≡ 3 = omega arith in
     let f = spelled 3 c.args.coordinates.now n in
