@@ -6,7 +6,7 @@ ghost use Rattle.kinds.specs.Kind.{On};
 use kinds::bar::BarPoint;
 use kinds::kind::PointKind;
 use kinds::lay::LayPoint;
-use kinds::points::{depth, size};
+use kinds::points::depth;
 use std::time::Instant;
 use std::{env, io};
 
@@ -119,7 +119,7 @@ fn depths<K: Sample>(count: u32) -> u64 {
 fn mix_bytes<K: PointKind>(before: u64, point: K) -> u64 {
     // no heap in what is timed
     let mut room = [0; 12];
-    let out = &mut room[..size::<K>()];
+    let out = &mut room[..K::SIZE];
     point.write(out);
     out.iter()
         .fold(before, |sum, byte| mix(sum, u64::from(*byte)))

@@ -6,7 +6,7 @@ ghost use Rattle.kinds.specs.Kind.{On};
 use kinds::bar::BarPoint;
 use kinds::kind::PointKind;
 use kinds::lay::LayPoint;
-use kinds::points::{bits, depth};
+use kinds::points::depth;
 use query::coordinates::Coordinates;
 use std::io::BufReader;
 use std::{fmt, io};
@@ -57,7 +57,7 @@ fn show_code<K: PointKind>(rt: &HostRuntime, before: Option<K>, point: K) -> io:
 {
     let code = point.code();
     // no `From` makes a `usize` of a `u32`
-    let width = bits::<K>() as usize;
+    let width = K::BITS as usize;
     println!(rt; "  code {code}")?;
     println!(rt; "  bits {code:0width$b}")?;
     if let Some(other) = before

@@ -4,7 +4,6 @@
 use kinds::bar::BarPoint;
 use kinds::kind::PointKind;
 use kinds::lay::LayPoint;
-use kinds::points::capacity;
 use page::data_page::DataView;
 use page::encode::{data_page, directory_page, free_page, head_page};
 use page::fault::PageFault;
@@ -93,7 +92,7 @@ fn head_again<K: PointKind>(bytes: &[u8; 64]) -> Result<(), Unread> {
 fn data_again<K: PointKind>(bytes: &[u8; 64], room: &mut [K]) -> Result<(), Unread> {
     let view = DataView::<K>::new(1, bytes)?;
     let count = view.count();
-    if count > room.len() || count > capacity::<K>() {
+    if count > room.len() || count > K::CAPACITY {
         return Err(Unread::Misread);
     }
     let points = &mut room[..count];
