@@ -1,3 +1,4 @@
 pub mod Heads
 pub mod Nodes
 pub mod Reaching
+pub mod Choosing
