@@ -2,3 +2,4 @@ pub mod Heads
 pub mod Nodes
 pub mod Reaching
 pub mod Choosing
+pub mod Writes
