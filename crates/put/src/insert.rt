@@ -15,7 +15,6 @@ use access::{fork_of, load_node, put_page, sides};
 use hand::points::Hand;
 use kinds::kind::PointKind;
 use kinds::points::{bit as bit_of, depth};
-use page::directory_page::Fork;
 use page::encode::directory_page;
 use page::entry::Entry;
 use page::tree_page::Node;
