@@ -1,3 +1,5 @@
 pub mod Heads
 pub mod Nodes
 pub mod Reaching
+pub mod Choosing
+pub mod Writes

@@ -1,5 +1,5 @@
 -- The head of a lawful card, as a call reads it.
-use Rattle.std.specs.Prelude.{◌≡◌, ℕ, List, length}
+use Rattle.std.specs.Prelude.{◌≡◌, List, length}
 use Rattle.kinds.specs.Kind.{Kind}
 use Rattle.page.specs.Checks.{root_summary}
 use Rattle.page.specs.declared.head_page.Head.{Head}

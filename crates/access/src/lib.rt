@@ -9,8 +9,11 @@ ghost use Rattle.tree.specs.Laid.{Laid};
 ghost use Rattle.tree.specs.Lawful.{Lawful, page as page_of};
 ghost use Rattle.tree.specs.Standing.{view_of};
 ghost use Rattle.access.specs.Loading.{HeadOf};
+ghost use Rattle.access.specs.Reached.{chosen};
 
 use kinds::kind::PointKind;
+use page::directory_page::Fork;
+use page::entry::Entry;
 use page::head_page::{Head, read_head};
 use page::tree_page::{Node, read_node};
 use refusal::Refusal;
@@ -58,4 +61,30 @@ pub fn put_page<S: PageStore>(store: &mut S, page: usize, bytes: &[u8; 64])
     ensures { S.PageStore.pages store.new ≡ slice_set (S.PageStore.pages store.old) page bytes.now }
 {
     let _ = store.write(page, bytes);
+}
+
+// The entry of the half of a bit, and that of the other half.
+pub fn sides<K: PointKind>(fork: &Fork<K>, bit: u64) -> (Entry<K>, Entry<K>)
+    ensures own { result.0 ≡ chosen bit fork.now.low fork.now.high }
+    ensures other { result.1 ≡ chosen bit fork.now.high fork.now.low }
+{
+    if bit == 0 {
+        (fork.low, fork.high)
+    } else {
+        (fork.high, fork.low)
+    }
+}
+
+// The directory page with an entry in the half of a bit, and another in the other half.
+pub fn fork_of<K: PointKind>(depth: u32, bit: u64, own: &Entry<K>, other: &Entry<K>) -> Fork<K>
+    ensures depth { result.depth ≡ depth }
+    ensures low { result.low ≡ chosen bit own.now other.now }
+    ensures high { result.high ≡ chosen bit other.now own.now }
+{
+    let (low, high) = if bit == 0 {
+        (*own, *other)
+    } else {
+        (*other, *own)
+    };
+    Fork { depth, low, high }
 }

@@ -1,5 +1,5 @@
 -- A put beside a directory page whose first bits the point does not share.
-use Rattle.std.proofs.Common.{◌≡◌, ℕ, zero, suc, ◌+◌, ◌%◌, ◌<◌, ◌≤◌, true, false, List, [], ◌∷◌, ◌++◌, length, set, Some, None, Ok, Err, Option, sym, refl, ap, ◌∙◌, subst, ⊎_elim, arith}
+use Rattle.std.proofs.Common.{◌≡◌, ℕ, zero, suc, ◌+◌, ◌%◌, ◌<◌, ◌≤◌, false, List, [], ◌∷◌, ◌++◌, length, set, Some, None, Ok, Err, Option, sym, refl, ap, ◌∙◌, subst, ⊎_elim, arith}
 use Rattle.std.specs.List.{AllByRecursion}
 use Rattle.std.proofs.lemmas.List.{get_or-set_same, get_or-set_other, length-set}
 use Rattle.std.proofs.lemmas.Bool.{cases_eq}
@@ -99,7 +99,7 @@ module _ {P : Type 0} (k : Kind P) (s : Sound k) where
           (λ z. full 0 0 (off apart) (above_low apart new_depth z) none)
           (bit_cases W m (C p))
 
-      module _ (x : Spare) (has : spare ≡ Some x) (fin : x.fork < length card) (gin : x.leaf < length card) (r : Grown P) (entry_is : summary k r.entry ≡ widened k x.fork p e) (used : r.used ≡ true) where
+      module _ (x : Spare) (has : spare ≡ Some x) (fin : x.fork < length card) (gin : x.leaf < length card) (r : Grown P) (entry_is : summary k r.entry ≡ widened k x.fork p e) (used : r.used ≡ Some x) where
         abbrev f : ℕ
         f = x.fork
 
@@ -142,7 +142,7 @@ module _ {P : Type 0} (k : Kind P) (s : Sound k) where
           kept_all = kept_then (g ∷ []) (f ∷ []) ((f ∷ (g ∷ [])) ++ way C W t p) (set_kept card g own_bytes) (set_kept mid f bytes) (λ i e. (omega arith, omega arith))
 
         uses : Uses spare r.used f g (f ∷ (g ∷ []))
-        uses = subst (λ o. Uses o r.used f g (f ∷ (g ∷ []))) (sym has) (subst (λ b. Uses (Some x) b f g (f ∷ (g ∷ []))) (sym used) (refl, refl, refl))
+        uses = subst (λ o. Uses spare o f g (f ∷ (g ∷ []))) (sym used) (has, refl, refl, refl)
 
         entry_for : (u : Laid P) → Grows C W B p f g t u (f ∷ (g ∷ [])) → number u ≡ f → summary k r.entry ≡ entry k u
         entry_for u gr at =

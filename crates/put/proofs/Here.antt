@@ -1,5 +1,5 @@
 -- A put into a data page.
-use Rattle.std.proofs.Common.{◌≡◌, ℕ, ◌+◌, ◌<◌, ◌≤◌, Bool, true, false, List, [], ◌∷◌, ◌++◌, map, length, set, Some, None, Ok, Err, Option, sym, refl, ap, ◌∙◌, subst, arith}
+use Rattle.std.proofs.Common.{◌≡◌, ℕ, ◌+◌, ◌<◌, ◌≤◌, true, false, List, [], ◌∷◌, ◌++◌, map, length, set, Some, None, Ok, Err, Option, sym, refl, ap, ◌∙◌, subst, arith}
 use Rattle.std.specs.List.{AllByRecursion}
 use Rattle.std.proofs.lemmas.List.{get_or-set_same, get_or-set_other, length-set}
 use Rattle.refusal.specs.declared.Refusal.TheVariants.{Live, Full}
@@ -64,19 +64,13 @@ module _ {P : Type 0} (k : Kind P) (s : Sound k) where
       abbrev up_with : Rising C (with_point C p xs)
       up_with = rising_with C p xs up (absent_from C p xs new)
 
-      room_at : (v : Grown P) → length xs < B → summary k v.entry ≡ entry k (data_at q (with_point C p xs)) → v.used ≡ false → PutEnd k card ps p spare (data_at q xs) (Ok v) (set card q (data_bytes (with_point C p xs)))
+      room_at : (v : Grown P) → length xs < B → summary k v.entry ≡ entry k (data_at q (with_point C p xs)) → v.used ≡ None → PutEnd k card ps p spare (data_at q xs) (Ok v) (set card q (data_bytes (with_point C p xs)))
       room_at v lt d used =
-          grew 0 0 fresh (fits_in lt) (unused spare v.used used) d
+          grew 0 0 fresh (fits_in lt) (subst (λ o. Uses spare o 0 0 []) (sym used) refl) d
           (get_or-set_same card q (data_bytes (with_point C p xs)) [] there, tt)
           (set_kept card q (data_bytes (with_point C p xs)))
-        where
-          unused : (o : Option Spare) (b : Bool) → b ≡ false → Uses o b 0 0 []
-          unused None true u = let z : ◌≡◌ {A = ℕ} 0 1 = cc in absurd (omega arith)
-          unused None false u = refl
-          unused (Some x) true u = let z : ◌≡◌ {A = ℕ} 0 1 = cc in absurd (omega arith)
-          unused (Some x) false u = refl
 
-      pub here_room : (v : Grown P) (after : Card) → length xs < B → summary k v.entry ≡ entry k (data_at e.page (with_point C p xs)) → v.used ≡ false → after ≡ set card e.page (data_bytes (with_point C p xs)) → PutEnd k card ps p spare (data_at q xs) (Ok v) after
+      pub here_room : (v : Grown P) (after : Card) → length xs < B → summary k v.entry ≡ entry k (data_at e.page (with_point C p xs)) → v.used ≡ None → after ≡ set card e.page (data_bytes (with_point C p xs)) → PutEnd k card ps p spare (data_at q xs) (Ok v) after
       here_room v after lt d used is =
           subst (PutEnd k card ps p spare (data_at q xs) (Ok v)) (sym (is ∙ ap (λ i. set card i (data_bytes (with_point C p xs))) at))
           (room_at v lt (d ∙ ap (λ i. entry k (data_at i (with_point C p xs))) at) used)
@@ -135,7 +129,7 @@ module _ {P : Type 0} (k : Kind P) (s : Sound k) where
         whole = grows_points C W B s.room p f g xs gr (subst (λ a. Halved C W B a (leaf xs)) same w.reached.stands.halved) up (absent_from C p xs new)
 
         uses : Uses spare r.used f g (f ∷ (g ∷ []))
-        uses = subst (λ o. Uses o r.used f g (f ∷ (g ∷ []))) (sym has) (subst (λ b. Uses (Some x) b f g (f ∷ (g ∷ []))) (sym sp.used) (refl, refl, refl))
+        uses = subst (λ o. Uses spare o f g (f ∷ (g ∷ []))) (sym sp.used) (has, refl, refl, refl)
 
         pub here_split : PutEnd k card ps p spare (data_at q xs) (Ok r) after
         here_split =

@@ -83,7 +83,7 @@ module _ {P : Type 0} (k : Kind P) (s : Sound k) (card now : Card) (same : now �
       pub apart_full : m < n → spare ≡ None → PutEnd k card ps p spare t (Err Full) now
       apart_full lt none = moved fork p (Err Full) now f.is (λ v. beside_full k s now ps e spare above f.q n f.l f.h v p m sh lt (apart lt v) none)
 
-      pub apart_put : (x : Spare) (r : Grown P) (after : Card) → m < n → spare ≡ Some x → x.fork < length now → x.leaf < length now → summary k r.entry ≡ widened k x.fork p e → r.used ≡ true
+      pub apart_put : (x : Spare) (r : Grown P) (after : Card) → m < n → spare ≡ Some x → x.fork < length now → x.leaf < length now → summary k r.entry ≡ widened k x.fork p e → r.used ≡ Some x
           → after ≡ card_beside k now x m p e
           → PutEnd k card ps p spare t (Ok r) after
       apart_put x r after lt has fin gin is used written =

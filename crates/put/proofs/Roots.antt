@@ -1,5 +1,5 @@
 -- The card after a put.
-use Rattle.std.proofs.Common.{◌≡◌, ℕ, suc, ◌+◌, ◌*◌, ◌^◌, ◌<◌, ◌≤◌, Bool, true, false, cond, ◌&&◌, ltb, leb, List, [], ◌∷◌, ◌++◌, length, set, Some, None, Ok, Err, Option, Result, sym, refl, ap, ◌∙◌, subst, inr, mul-le-mul_right, arith}
+use Rattle.std.proofs.Common.{◌≡◌, ℕ, suc, ◌+◌, ◌*◌, ◌^◌, ◌<◌, ◌≤◌, true, false, cond, ◌&&◌, ltb, leb, List, [], ◌∷◌, ◌++◌, length, set, Some, None, Ok, Err, Option, Result, sym, refl, ap, ◌∙◌, subst, inr, mul-le-mul_right, arith}
 use Rattle.std.specs.List.{ContainsAt as Has}
 use Rattle.std.proofs.lemmas.List.{get_or-set_same, get_or-set_other}
 use Rattle.refusal.specs.declared.Refusal.{Refusal}
@@ -40,19 +40,19 @@ module _ {P : Type 0} (k : Kind P) (card : Card) where
   whole_left : (chain new : List ℕ) (first free : ℕ) → Chained k card chain → front chain ≡ first → length chain ≡ free → new ≡ [] → ChainLeft card (Chained k card) chain new first free
   whole_left chain new first free c f n e = record { rest = chain; first_is = f; free_is = n; both = λ q. rw e (omega arith); few = rw e (omega arith); linked = c }
 
-  pub chain_left : (o : Option Spare) (b : Bool) (f g : ℕ) (chain new : List ℕ) (first free : ℕ) → Chained k card chain → SpareOf chain (Ok o) → Uses o b f g new → front chain ≡ first → length chain ≡ free
-      → ChainLeft card (Chained k card) chain new (first_after first o b) (free_after free o b)
-  chain_left None true f g chain new first free c sp u at n = absurd u
-  chain_left None false f g chain new first free c sp u at n = whole_left chain new first free c at n u
-  chain_left (Some x) false f g chain new first free c sp u at n = whole_left chain new first free c at n u
-  chain_left (Some x) true f g chain new first free c sp u at n = record {
-    rest = sp.0;
-    first_is = sp.2;
-    free_is = sp.3;
-    both = λ q. rw (u.2, ← u.0, ← u.1, sp.1) (omega arith);
-    few = rw u.2 (omega arith);
-    linked = (subst (Chained k card) sp.1 c).1.1;
-  }
+  pub chain_left : (o used : Option Spare) (f g : ℕ) (chain new : List ℕ) (first free : ℕ) → Chained k card chain → SpareOf chain (Ok o) → Uses o used f g new → front chain ≡ first → length chain ≡ free
+      → ChainLeft card (Chained k card) chain new (first_after first used) (free_after free used)
+  chain_left o None f g chain new first free c sp u at n = whole_left chain new first free c at n u
+  chain_left o (Some x) f g chain new first free c sp u at n =
+      let (rest, is, first_is, free_is) = subst (λ y. SpareOf chain (Ok y)) u.0 sp in
+      record {
+        rest = rest;
+        first_is = first_is;
+        free_is = free_is;
+        both = λ q. rw (u.3, ← u.1, ← u.2, is) (omega arith);
+        few = rw u.3 (omega arith);
+        linked = (subst (Chained k card) is c).1.1;
+      }
 
 -- the pages at hand are pages of the chain
 pub spares_free : (o : Option Spare) (chain : List ℕ) → SpareOf chain (Ok o) → (q : ℕ) → times q (spares o) ≤ times q chain
@@ -189,7 +189,7 @@ module _ {P : Type 0} (k : Kind P) (s : Sound k) (before : Card) (set' : List P)
     }
 
     pub more_step : (first free : ℕ) (v : Grown P) (mid after : Card) → front w.chain ≡ first → length w.chain ≡ free → PutEnd k before set' p spare t (Ok v) mid
-        → after ≡ set mid 0 (encode k (head_view (first_after first spare v.used) (free_after free spare v.used) (Some (summary k v.entry)))) → PutStep k before set' w p (Ok tt) after
+        → after ≡ set mid 0 (encode k (head_view (first_after first v.used) (free_after free v.used) (Some (summary k v.entry)))) → PutStep k before set' w p (Ok tt) after
     more_step first free v mid after at n (grew f g {u} {new} fresh gr uses is shows kept) head =
         let l = chain_left k before spare v.used f g w.chain new first free w.chained sp uses at n in
         put_step fresh u new l.rest mid after
@@ -198,7 +198,7 @@ module _ {P : Type 0} (k : Kind P) (s : Sound k) (before : Card) (set' : List P)
         (subst (λ r. KeptBut (new ++ root_way k r p) before mid) (sym is_root) kept)
         (λ q. subst (λ r. times q (numbers u) ≡ times q (root_numbers r) + times q new) (sym is_root) (grows_times C (wide k) k.capacity p f g q gr))
         l.both l.few l.linked
-        (head ∙ ap (λ x. set mid 0 (encode k (head_view x (free_after free spare v.used) (Some (summary k v.entry))))) (sym l.first_is)
+        (head ∙ ap (λ x. set mid 0 (encode k (head_view x (free_after free v.used) (Some (summary k v.entry))))) (sym l.first_is)
         ∙ ap (λ x. set mid 0 (encode k (head_view (front l.rest) x (Some (summary k v.entry))))) (sym l.free_is)
         ∙ ap (λ x. set mid 0 (encode k (head_view (front l.rest) (length l.rest) (Some x)))) is)
 
@@ -215,9 +215,9 @@ any_put k p now before after (Ok u) on same e = (on, e ∙ ap length same)
 any_put k p now before after (Err x) on same e = (e.0 ∙ same, inr (on, e.1))
 
 -- the head that is written
-pub head_bytes_are : {P : Type 0} (k : Kind P) (head r : Head P) (spare : Option Spare) (v : Grown P) → HeadAfter head spare v r
-    → encode k (head_view r.first r.free (root_summary k r.root)) ≡ encode k (head_view (first_after head.first spare v.used) (free_after head.free spare v.used) (Some (summary k v.entry)))
-head_bytes_are k head r spare v h =
+pub head_bytes_are : {P : Type 0} (k : Kind P) (head r : Head P) (v : Grown P) → HeadAfter head v r
+    → encode k (head_view r.first r.free (root_summary k r.root)) ≡ encode k (head_view (first_after head.first v.used) (free_after head.free v.used) (Some (summary k v.entry)))
+head_bytes_are k head r v h =
     ap (λ a. encode k (head_view a r.free (root_summary k r.root))) h.first ∙
-    ap (λ a. encode k (head_view (first_after head.first spare v.used) a (root_summary k r.root))) h.free ∙
-    ap (λ a. encode k (head_view (first_after head.first spare v.used) (free_after head.free spare v.used) (root_summary k a))) h.root
+    ap (λ a. encode k (head_view (first_after head.first v.used) a (root_summary k r.root))) h.free ∙
+    ap (λ a. encode k (head_view (first_after head.first v.used) (free_after head.free v.used) (root_summary k a))) h.root

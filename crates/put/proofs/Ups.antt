@@ -1,5 +1,5 @@
 -- The way up from a half that has grown, or that was refused.
-use Rattle.std.proofs.Common.{◌≡◌, ℕ, ◌+◌, ◌<◌, ◌≤◌, Bool, true, false, ◌⊎◌, List, [], ◌∷◌, ◌++◌, length, set, Some, None, Ok, Err, Option, sym, refl, ap, ◌∙◌, subst, inl, inr, ⊎_elim, arith}
+use Rattle.std.proofs.Common.{◌≡◌, ℕ, ◌+◌, ◌<◌, ◌≤◌, true, false, ◌⊎◌, List, [], ◌∷◌, ◌++◌, length, set, Some, None, Ok, Err, Option, sym, refl, ap, ◌∙◌, subst, inl, inr, ⊎_elim, arith}
 use Rattle.std.proofs.lemmas.List.{get_or-set_same, get_or-set_other}
 use Rattle.std.proofs.ByRecursion.{All-append}
 use Rattle.refusal.specs.declared.Refusal.{Refusal}
@@ -26,11 +26,9 @@ use Rattle.put.specs.Growing.{widened, Growing, Uses, PutEnd, taken, full, grew}
 use Rattle.put.proofs.Widening.{widened_entry}
 
 -- new pages are among those at hand
-pub uses_spare : (o : Option Spare) (used : Bool) (f g : ℕ) (new : List ℕ) → Uses o used f g new → (i : ℕ) → times i new ≤ times i (spares o)
-uses_spare None true f g new u i = absurd u
-uses_spare (Some x) true f g new u i = rw (u.2, u.0, u.1) (omega arith)
-uses_spare None false f g new u i = rw u (omega arith)
-uses_spare (Some x) false f g new u i = rw u (omega arith)
+pub uses_spare : (o used : Option Spare) (f g : ℕ) (new : List ℕ) → Uses o used f g new → (i : ℕ) → times i new ≤ times i (spares o)
+uses_spare o None f g new u i = rw u (omega arith)
+uses_spare o (Some x) f g new u i = rw (u.0, u.3, u.1, u.2) (omega arith)
 
 module _ {P : Type 0} (k : Kind P) where
   abbrev C : P → ℕ
@@ -118,7 +116,7 @@ module _ {P : Type 0} (k : Kind P) (s : Sound k) (card : Card) (ps : List P) (e 
           let len = ap length (reached_points k s card ps e above t w.reached) in
           entry_is ∙ ap (λ i. widened k i p e) (at ∙ sym nu) ∙ ap (widened k (number u) p) w.reached.at ∙ widened_entry k p t u (omega arith) whole
 
-      counts : (f g : ℕ) (new : List ℕ) (used : Bool) → Uses spare used f g new → (i : ℕ) → times i new + (times i (q ∷ []) + (times i (numbers l) + times i (numbers h))) ≤ 1
+      counts : (f g : ℕ) (new : List ℕ) (used : Option Spare) → Uses spare used f g new → (i : ℕ) → times i new + (times i (q ∷ []) + (times i (numbers l) + times i (numbers h))) ≤ 1
       counts f g new used u i = let o = w.once i in let a = uses_spare spare used f g new u i in let b = times_append i (spares spare) (numbers t) in let c = times_append i (numbers l) (numbers h) in omega arith
 
       abbrev fork_bytes : ℕ → Grown P → List ℕ

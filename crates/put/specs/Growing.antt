@@ -1,5 +1,5 @@
 -- How a put into a part of the tree ends.
-use Rattle.std.specs.Prelude.{◌≡◌, ℕ, suc, ◌+◌, ◌^◌, ◌<◌, ◌≤◌, Bool, true, false, ◌⊎◌, List, [], ◌∷◌, ◌++◌, map, length, Some, None, Ok, Err, Option, Result, slice_set}
+use Rattle.std.specs.Prelude.{◌≡◌, ℕ, suc, ◌+◌, ◌^◌, ◌<◌, ◌≤◌, true, false, ◌⊎◌, List, [], ◌∷◌, ◌++◌, map, length, Some, None, Ok, Err, Option, Result, slice_set}
 use Rattle.std.specs.Int.{int_min, int_max}
 use Rattle.std.specs.List.{AllByRecursion}
 use Rattle.refusal.specs.declared.Refusal.{Refusal}
@@ -22,11 +22,9 @@ use Rattle.put.specs.declared.spare.Spare.{Spare}
 use Rattle.put.specs.Spares.{spares}
 
 -- which of the pages at hand are used
-abbrev pub Uses : Option Spare → Bool → ℕ → ℕ → List ℕ → Type 0
-Uses None true f g new = ⊥
-Uses (Some x) true f g new = (x.fork ≡ f) × (x.leaf ≡ g) × (new ≡ f ∷ (g ∷ []))
-Uses None false f g new = new ≡ []
-Uses (Some x) false f g new = new ≡ []
+abbrev pub Uses : Option Spare → Option Spare → ℕ → ℕ → List ℕ → Type 0
+Uses spare None f g new = new ≡ []
+Uses spare (Some x) f g new = (spare ≡ Some x) × (x.fork ≡ f) × (x.leaf ≡ g) × (new ≡ f ∷ (g ∷ []))
 
 module _ {P : Type 0} (k : Kind P) where
   -- the entry of a part with one point more, which begins at page q
@@ -48,7 +46,7 @@ module _ {P : Type 0} (k : Kind P) where
     pub depth : ℕ
     pub deep : Depth (code_of k) (wide k) depth ps
     pub entry_is : summary k r.entry ≡ entry k (data_at x.fork ps)
-    pub used : r.used ≡ true
+    pub used : r.used ≡ Some x
     pub written : after ≡
         slice_set (slice_set (slice_set before q (encode k (data_view (map k.coords (half (code_of k) (wide k) depth 0 ps)))))
         x.leaf (encode k (data_view (map k.coords (half (code_of k) (wide k) depth 1 ps)))))

@@ -1,5 +1,5 @@
 -- The free pages that a put may use.
-use Rattle.std.specs.Prelude.{◌≡◌, ℕ, ◌<◌, Bool, true, false, List, [], ◌∷◌, length, Some, None, Ok, Err, Option, Result}
+use Rattle.std.specs.Prelude.{◌≡◌, ℕ, ◌<◌, List, [], ◌∷◌, length, Some, None, Ok, Err, Option, Result}
 use Rattle.refusal.specs.declared.Refusal.{Refusal}
 use Rattle.tree.specs.Lawful.{front}
 use Rattle.page.specs.declared.head_page.Head.{Head}
@@ -17,19 +17,17 @@ SpareOf chain (Ok None) = length chain < 2
 SpareOf chain (Ok (Some x)) = (rest : List ℕ) × (chain ≡ x.fork ∷ (x.leaf ∷ rest)) × (front rest ≡ x.rest) × (length rest ≡ x.left)
 SpareOf chain (Err e) = ⊥
 
--- the first free page after a put, and how many pages are free then
-abbrev pub first_after : ℕ → Option Spare → Bool → ℕ
-first_after first None used = first
-first_after first (Some x) true = x.rest
-first_after first (Some x) false = first
+-- the first free page after a put that used these pages, and how many pages are free then
+abbrev pub first_after : ℕ → Option Spare → ℕ
+first_after first None = first
+first_after first (Some x) = x.rest
 
-abbrev pub free_after : ℕ → Option Spare → Bool → ℕ
-free_after free None used = free
-free_after free (Some x) true = x.left
-free_after free (Some x) false = free
+abbrev pub free_after : ℕ → Option Spare → ℕ
+free_after free None = free
+free_after free (Some x) = x.left
 
 -- the head after a put
-pub record HeadAfter {P : Type 0} (head : Head P) (spare : Option Spare) (grown : Grown P) (r : Head P) : Type 0 where
-  pub first : r.first ≡ first_after head.first spare grown.used
-  pub free : r.free ≡ free_after head.free spare grown.used
+pub record HeadAfter {P : Type 0} (head : Head P) (grown : Grown P) (r : Head P) : Type 0 where
+  pub first : r.first ≡ first_after head.first grown.used
+  pub free : r.free ≡ free_after head.free grown.used
   pub root : r.root ≡ Some grown.entry

@@ -1,5 +1,5 @@
 // A point into a part of the tree. On the way down pages are read and all that can be refused is decided; pages are written on the way up.
-ghost use Rattle.std.specs.Prelude.{◌≡◌, ℕ, ◌+◌, ◌^◌, ◌<◌, ◌≤◌, true, false, List, length};
+ghost use Rattle.std.specs.Prelude.{◌≡◌, ℕ, ◌+◌, ◌^◌, ◌<◌, ◌≤◌, List, length, Some};
 ghost use Rattle.std.specs.List.{AllByRecursion};
 ghost use Rattle.kinds.specs.Kind.{On, wide};
 ghost use Rattle.page.specs.Form.{directory_view, encode};
@@ -11,22 +11,21 @@ ghost use Rattle.put.specs.Spares.{spares};
 ghost use Rattle.put.specs.Growing.{widened, card_beside, Mixed, Split, Growing, PutEnd, AnyEnd};
 
 use crate::spare::Spare;
-use access::{load, put_page};
+use access::{fork_of, load_node, put_page, sides};
 use hand::points::Hand;
 use kinds::kind::PointKind;
-use kinds::points::{bit as bit_of, capacity, depth};
-use page::directory_page::Fork;
+use kinds::points::{bit as bit_of, depth};
 use page::encode::directory_page;
 use page::entry::Entry;
-use page::tree_page::{Node, read_node};
+use page::tree_page::Node;
 use refusal::Refusal;
 use store::page_store::PageStore;
 
-// What a part of the tree has become: its entry, and whether the two pages at hand are used.
+// What a part of the tree has become: its entry, and the two pages at hand if they are used.
 #[derive(Clone, Copy)]
 pub(crate) struct Grown<K> {
     pub(crate) entry: Entry<K>,
-    pub(crate) used: bool,
+    pub(crate) used: Option<Spare>,
 }
 
 // The entry of a part with one point more, which begins at `page` now.
@@ -42,28 +41,13 @@ fn widen<K: PointKind>(page: u16, at: &Entry<K>, p: &K) -> Entry<K>
     }
 }
 
-// The half of a bit, and the other half.
-fn sides<K: PointKind>(fork: &Fork<K>, bit: u64) -> (Entry<K>, Entry<K>)
-    ensures half { summary K.PointKind.kind result.0 ≡ chosen bit (summary K.PointKind.kind fork.now.low) (summary K.PointKind.kind fork.now.high) }
-    ensures other { summary K.PointKind.kind result.1 ≡ chosen bit (summary K.PointKind.kind fork.now.high) (summary K.PointKind.kind fork.now.low) }
-{
-    if bit == 0 {
-        (fork.low, fork.high)
-    } else {
-        (fork.high, fork.low)
-    }
-}
-
 // A directory page with an entry in the half of a bit, and another in the other half.
 fn fork_page<K: PointKind>(depth: u32, bit: u64, own: &Entry<K>, other: &Entry<K>) -> [u8; 64]
     requires { depth < wide K.PointKind.kind }
     ensures { result ≡ encode K.PointKind.kind (directory_view depth (chosen bit (summary K.PointKind.kind own.now) (summary K.PointKind.kind other.now)) (chosen bit (summary K.PointKind.kind other.now) (summary K.PointKind.kind own.now))) }
 {
-    if bit == 0 {
-        directory_page(depth as u8, own, other)
-    } else {
-        directory_page(depth as u8, other, own)
-    }
+    let fork = fork_of(depth, bit, own, other);
+    directory_page(fork.depth as u8, &fork.low, &fork.high)
 }
 
 // Splits points at their depth: `page` keeps the low half, and the pages at hand become the data page of the high half and the directory page of both.
@@ -86,13 +70,13 @@ fn split<K: PointKind, S: PageStore>(
     let depth = depth(&whole.low, &whole.high);
     let low = points.half(depth, 0);
     let high = points.half(depth, 1);
-    put_page(store, page as usize, &low.page());
-    put_page(store, spare.leaf as usize, &high.page());
+    put_page(store, usize::from(page), &low.page());
+    put_page(store, usize::from(spare.leaf), &high.page());
     let fork = fork_page(depth, 0, &low.entry(page), &high.entry(spare.leaf));
-    put_page(store, spare.fork as usize, &fork);
+    put_page(store, usize::from(spare.fork), &fork);
     Grown {
         entry: whole,
-        used: true,
+        used: Some(spare),
     }
 }
 
@@ -116,11 +100,11 @@ fn put_here<K: PointKind, S: PageStore>(
         return Err(Refusal::Live);
     }
     let all = points.with(p);
-    if points.count() < capacity::<K>() {
-        put_page(store, at.page as usize, &all.page());
+    if points.count() < K::CAPACITY {
+        put_page(store, usize::from(at.page), &all.page());
         return Ok(Grown {
             entry: all.entry(at.page),
-            used: false,
+            used: None,
         });
     }
     let Some(pages) = spare else {
@@ -143,16 +127,16 @@ fn put_beside<K: PointKind, S: PageStore>(
     requires fork_there { spare.fork < length (S.PageStore.pages store.old) }
     requires leaf_there { spare.leaf < length (S.PageStore.pages store.old) }
     ensures entry { summary K.PointKind.kind result.entry ≡ widened K.PointKind.kind spare.fork p.now (summary K.PointKind.kind at.now) }
-    ensures used { result.used ≡ true }
+    ensures used { result.used ≡ Some spare }
     ensures written { S.PageStore.pages store.new ≡ card_beside K.PointKind.kind (S.PageStore.pages store.old) spare shared p.now (summary K.PointKind.kind at.now) }
 {
     let alone = Hand::one(*p);
     let fork = fork_page(shared, bit_of(p, shared), &alone.entry(spare.leaf), at);
-    put_page(store, spare.leaf as usize, &alone.page());
-    put_page(store, spare.fork as usize, &fork);
+    put_page(store, usize::from(spare.leaf), &alone.page());
+    put_page(store, usize::from(spare.fork), &fork);
     Grown {
         entry: widen(spare.fork, at, p),
-        used: true,
+        used: Some(spare),
     }
 }
 
@@ -174,12 +158,7 @@ pub(crate) fn insert<K: PointKind, S: PageStore>(
     if at.count == u32::MAX {
         return Err(Refusal::Damaged);
     }
-    let Ok(bytes) = load(store, at.page as usize) else {
-        return Err(Refusal::Damaged);
-    };
-    let Ok(node) = read_node::<K>(at.page as usize, &bytes) else {
-        return Err(Refusal::Damaged);
-    };
+    let (bytes, node) = load_node::<K, S>(store, at.page)?;
     let Node::Directory(fork) = node else {
         let Some(points) = Hand::<K>::of_page(&bytes) else {
             return Err(Refusal::Damaged);
@@ -198,15 +177,11 @@ pub(crate) fn insert<K: PointKind, S: PageStore>(
     }
     let bit = bit_of(p, fork.depth);
     let (half, other) = sides(&fork, bit);
-    match insert(store, half, p, spare, fork.depth + 1) {
-        Ok(grown) => {
-            let page = fork_page(fork.depth, bit, &grown.entry, &other);
-            put_page(store, at.page as usize, &page);
-            Ok(Grown {
-                entry: widen(at.page, &at, p),
-                used: grown.used,
-            })
-        }
-        Err(refusal) => Err(refusal),
-    }
+    let grown = insert(store, half, p, spare, fork.depth + 1)?;
+    let page = fork_page(fork.depth, bit, &grown.entry, &other);
+    put_page(store, usize::from(at.page), &page);
+    Ok(Grown {
+        entry: widen(at.page, &at, p),
+        used: grown.used,
+    })
 }

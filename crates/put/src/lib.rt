@@ -10,13 +10,13 @@ ghost use Rattle.put.specs.Growing.{AnyEnd};
 ghost use Rattle.put.specs.Putting.{PutStep, PutAny};
 
 use crate::insert::{Grown, insert as insert_point};
-use crate::spare::{Spare, next_page, spare_pages};
-use access::{load, put_page};
+use crate::spare::{next_page, spare_pages};
+use access::{load_head, put_page};
 use hand::points::Hand;
 use kinds::kind::PointKind;
 use page::encode::head_page;
 use page::entry::Entry;
-use page::head_page::{Head, read_head};
+use page::head_page::Head;
 use refusal::Refusal;
 use store::page_store::PageStore;
 
@@ -24,23 +24,21 @@ mod insert;
 mod spare;
 
 // The head after a put.
-fn head_after<K: PointKind>(head: &Head<K>, spare: Option<Spare>, grown: &Grown<K>) -> Head<K>
-    ensures { HeadAfter head.now spare grown.now result }
+fn head_after<K: PointKind>(head: &Head<K>, grown: &Grown<K>) -> Head<K>
+    ensures { HeadAfter head.now grown.now result }
 {
     let root = Some(grown.entry);
-    if let Some(pages) = spare {
-        if grown.used {
-            return Head {
-                first: pages.rest,
-                free: pages.left,
-                root,
-            };
-        }
-    }
-    Head {
-        first: head.first,
-        free: head.free,
-        root,
+    match grown.used {
+        Some(pages) => Head {
+            first: pages.rest,
+            free: pages.left,
+            root,
+        },
+        None => Head {
+            first: head.first,
+            free: head.free,
+            root,
+        },
     }
 }
 
@@ -58,11 +56,9 @@ fn put_first<K: PointKind, S: PageStore>(
     if head.free == 0 {
         return Err(Refusal::Full);
     }
-    let Ok(rest) = next_page::<K, S>(store, head.first) else {
-        return Err(Refusal::Damaged);
-    };
+    let rest = next_page::<K, S>(store, head.first)?;
     let points = Hand::one(*p);
-    put_page(store, head.first as usize, &points.page());
+    put_page(store, usize::from(head.first), &points.page());
     let head = Head {
         first: rest,
         free: head.free - 1,
@@ -85,17 +81,11 @@ fn put_more<K: PointKind, S: PageStore>(
     ensures lawful { (set : List K) (w : Lawful K.PointKind.kind (S.PageStore.pages store.old) set) → front w.chain ≡ head.now.first → length w.chain ≡ head.now.free → root_entry K.PointKind.kind w.root ≡ Some (summary K.PointKind.kind root) → PutStep K.PointKind.kind (S.PageStore.pages store.old) set w p.now result (S.PageStore.pages store.new) }
     ensures always { AnyEnd (S.PageStore.pages store.old) result (S.PageStore.pages store.new) }
 {
-    let Ok(spare) = spare_pages(store, head) else {
-        return Err(Refusal::Damaged);
-    };
-    match insert_point(store, root, p, spare, 0) {
-        Ok(grown) => {
-            let head = head_after(head, spare, &grown);
-            put_page(store, 0, &head_page(&head));
-            Ok(())
-        }
-        Err(refusal) => Err(refusal),
-    }
+    let spare = spare_pages(store, head)?;
+    let grown = insert_point(store, root, p, spare, 0)?;
+    let head = head_after(head, &grown);
+    put_page(store, 0, &head_page(&head));
+    Ok(())
 }
 
 // Puts a point into a draft. 3 if a coordinate is off its axis, then 9 if the card is damaged, then 4 if the point is live, then 6 if the tree with the point needs more pages than the card has.
@@ -106,12 +96,7 @@ pub fn put<K: PointKind, S: PageStore>(store: &mut S, p: &K) -> Result<(), Refus
     if !p.on_axes() {
         return Err(Refusal::OffAxis);
     }
-    let Ok(bytes) = load(store, 0) else {
-        return Err(Refusal::Damaged);
-    };
-    let Ok(head) = read_head::<K>(0, &bytes) else {
-        return Err(Refusal::Damaged);
-    };
+    let head = load_head::<K, S>(store)?;
     let root = head.root;
     match root {
         Some(root) => put_more(store, &head, root, p),

@@ -36,13 +36,8 @@ pub(crate) fn next_page<K: PointKind, S: PageStore>(
     ensures gives { MatchResult result (λ next. (page < length (S.PageStore.pages store.old)) × Reads K.PointKind.kind (page_of (S.PageStore.pages store.old) page) (free_view next)) (λ e. (number e ≡ 9) × ((next : ℕ) → Reads K.PointKind.kind (page_of (S.PageStore.pages store.old) page) (free_view next) → ⊥)) }
     ensures keeps { S.PageStore.pages store.new ≡ S.PageStore.pages store.old }
 {
-    let Ok(bytes) = load(store, page as usize) else {
-        return Err(Refusal::Damaged);
-    };
-    match next_free::<K>(page as usize, &bytes) {
-        Ok(next) => Ok(next),
-        Err(_) => Err(Refusal::Damaged),
-    }
+    let bytes = load(store, usize::from(page))?;
+    Ok(next_free::<K>(usize::from(page), &bytes)?)
 }
 
 // The first two free pages, none where fewer than two are free.
@@ -57,12 +52,8 @@ pub(crate) fn spare_pages<K: PointKind, S: PageStore>(
     if head.free < PAIR {
         return Ok(None);
     }
-    let Ok(leaf) = next_page::<K, S>(store, head.first) else {
-        return Err(Refusal::Damaged);
-    };
-    let Ok(rest) = next_page::<K, S>(store, leaf) else {
-        return Err(Refusal::Damaged);
-    };
+    let leaf = next_page::<K, S>(store, head.first)?;
+    let rest = next_page::<K, S>(store, leaf)?;
     Ok(Some(Spare {
         fork: head.first,
         leaf,

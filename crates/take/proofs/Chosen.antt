@@ -1,5 +1,5 @@
 -- The two halves of a directory page: the half of a bit and the other.
-use Rattle.std.proofs.Common.{◌≡◌, ℕ, ◌+◌, ◌<◌, ◌≤◌, Bool, true, false, cond, eqb, ◌⊎◌, List, [], ◌∷◌, ◌++◌, length, Some, None, sym, refl, ap, ◌∙◌, subst, ap₂, inl, inr, arith, length-append}
+use Rattle.std.proofs.Common.{◌≡◌, ℕ, ◌+◌, ◌<◌, ◌≤◌, true, eqb, ◌⊎◌, List, [], ◌∷◌, ◌++◌, length, Some, None, sym, ap, ◌∙◌, subst, ap₂, inl, inr, arith, length-append}
 use Rattle.std.proofs.ByRecursion.{All-append}
 use Rattle.std.proofs.lemmas.Bool.{cond_both}
 use Rattle.zorder.specs.Code.{bit_at}
@@ -24,14 +24,6 @@ use Rattle.growth.proofs.Takes.{shrinks_halved, left_low, left_high}
 pub by_bit : (A : ℕ → Type 0) → A 0 → A 1 → (b : ℕ) → (b ≡ 0) ⊎ (b ≡ 1) → A b
 by_bit A zero_bit one_bit b (inl e) = subst A (sym e) zero_bit
 by_bit A zero_bit one_bit b (inr e) = subst A (sym e) one_bit
-
--- a function of the chosen one
-pub chosen_of : {X Y : Type 0} (f : X → Y) (b : ℕ) (x y : X) → f (chosen b x y) ≡ chosen b (f x) (f y)
-chosen_of f b x y = by (eqb b 0)
-  where
-    by : (t : Bool) → f (cond t x y) ≡ cond t (f x) (f y)
-    by true = refl
-    by false = refl
 
 -- as many points as both parts have
 pub chosen_length : {X : Type 0} (b : ℕ) (xs ys : List X) → length (chosen b (xs ++ ys) (ys ++ xs)) ≡ length xs + length ys

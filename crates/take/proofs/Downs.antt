@@ -1,5 +1,5 @@
 -- From the page that was read to the part of the tree that begins there.
-use Rattle.std.proofs.Common.{◌≡◌, ℕ, ◌<◌, ◌≤◌, false, List, [], ◌∷◌, map, length, Some, Err, sym, ap, ◌∙◌, subst, arith}
+use Rattle.std.proofs.Common.{◌≡◌, ℕ, ◌<◌, ◌≤◌, false, List, map, length, Some, sym, ap, ◌∙◌, subst, arith}
 use lib.Bits.{bit_xor}
 use lib.Count.{count_leading_zeros}
 use Rattle.zorder.specs.Code.{first, bit_at}
@@ -8,17 +8,15 @@ use Rattle.kinds.specs.Kind.{Kind, Sound, On, code_of, wide}
 use Rattle.kinds.proofs.Telling.{code_of_lt}
 use Rattle.page.specs.declared.directory_page.Fork.{Fork}
 use Rattle.page.specs.declared.entry.Entry.{Entry}
-use Rattle.page.specs.declared.fault.PageFault.{PageFault}
 use Rattle.page.specs.Form.{data_view}
 use Rattle.page.specs.Fields.{Reads}
-use Rattle.page.specs.Checks.{Checked, IsData, DirectoryRead, summary}
+use Rattle.page.specs.Checks.{IsData, DirectoryRead, summary}
 use Rattle.tree.specs.Sets.{live}
 use Rattle.tree.specs.Laid.{Laid, data_at, directory_at, agrees}
 use Rattle.tree.specs.Lawful.{Card, page}
 use Rattle.tree.specs.Standing.{view_of}
 use Rattle.tree.proofs.Laws.{live_not}
 use Rattle.tree.proofs.Standings.{leaf_inv}
-use Rattle.access.proofs.Nodes.{never_fault}
 use Rattle.access.specs.Reached.{Reached}
 use Rattle.access.proofs.Reaching.{reached_points, reached_there, reached_reads, reached_parted, leafed, forked, deep, agrees_if, agrees_not}
 use Rattle.take.specs.Shrinking.{Shrinking, Divided}
@@ -29,12 +27,8 @@ module _ {P : Type 0} (k : Kind P) (s : Sound k) (card : Card) (ps : List P) (e 
   below_there = reached_there k s card ps (summary k e) above t w.reached
 
   module _ (bs : List ℕ) (is : bs ≡ page card e.page) where
-    reads : Reads k bs (view_of k t)
+    pub reads : Reads k bs (view_of k t)
     reads = reached_reads k s card ps (summary k e) above t w.reached bs is
-
-    -- it is a page of the tree
-    pub below_read : {X : Type 0} (good : X → Type 0) (f : PageFault) → Checked k {X = X} e.page (k.data_kind ∷ (k.directory_kind ∷ [])) bs good (Err f) → ⊥
-    below_read {X} good f c = never_fault k s {X = X} t bs e.page good f reads c
 
     -- a data page has the points of the part
     pub data_case : (F : Laid P → Type 0) → IsData k bs → (Reads k bs (data_view (map k.coords ps)) → F (data_at e.page ps)) → F t

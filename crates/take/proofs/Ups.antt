@@ -19,11 +19,13 @@ use Rattle.growth.specs.Shrinks.{Shrinks}
 use Rattle.growth.proofs.Kept.{times_here, set_kept, kept_then, shows_kept, way_times}
 use Rattle.growth.proofs.Takes.{shrinks_times}
 use Rattle.access.proofs.Reaching.{down, reached_count}
+use Rattle.take.specs.declared.taken.FreedPages.{FreedPages}
 use Rattle.take.specs.declared.taken.Taken.TheVariants.{Gone, Left}
 use Rattle.take.specs.Shrinking.{both, above_both, Leaves, Shrunk, Shrinking, Divided}
 use Rattle.take.proofs.DataPages.{leaf_gone}
 use Rattle.take.proofs.Entries.{fork_entry}
-use Rattle.take.proofs.Chosen.{chosen_of, chosen_length, side_times, side_way, side_shows, side_changed, side_gone, side_less, side_merged, side_stands, side_count, side_left}
+use Rattle.access.proofs.Choosing.{chosen_of}
+use Rattle.take.proofs.Chosen.{chosen_length, side_times, side_way, side_shows, side_changed, side_gone, side_less, side_merged, side_stands, side_count, side_left}
 
 module _ {P : Type 0} (k : Kind P) where
   -- a part with at most b points is a data page
@@ -77,7 +79,7 @@ module _ {P : Type 0} (k : Kind P) (s : Sound k) (card : Card) (ps : List P) (e 
 
   -- ---- the half is gone: the other stands in the place of both
   pub up_gone : (gone : ℕ) (mid : Card) (other : Entry P) → summary k other ≡ entry k (chosen bit h l) → Shrunk k card (half (code_of k) (wide k) x.depth bit ps) p (chosen bit l h) (Gone gone) mid
-      → Shrunk k card ps p (directory_at q x.depth l h) (Left other (Some (e.page, gone))) mid
+      → Shrunk k card ps p (directory_at q x.depth l h) (Left other (Some (record { fork = e.page; leaf = gone }))) mid
   up_gone gone mid other is sub = record {
     was_live = sym live_own ∙ sub.was_live;
     left = Some (chosen bit h l);
@@ -93,7 +95,7 @@ module _ {P : Type 0} (k : Kind P) (s : Sound k) (card : Card) (ps : List P) (e 
       nothing (Some m) li sh = absurd li
 
   -- ---- both halves stay
-  pub up_less : (el v : Entry P) (pages : Option (ℕ × ℕ)) (mid after : Card) (y : Fork P) → y.low ≡ chosen bit el x.low → y.high ≡ chosen bit x.high el
+  pub up_less : (el v : Entry P) (pages : Option FreedPages) (mid after : Card) (y : Fork P) → y.low ≡ chosen bit el x.low → y.high ≡ chosen bit x.high el
       → summary k v ≡ above_both e.page (e.count - 1) (summary k y.low) (summary k y.high) → k.capacity + 1 < e.count
       → after ≡ set mid e.page (encode k (directory_view x.depth (summary k y.low) (summary k y.high)))
       → Shrunk k card (half (code_of k) (wide k) x.depth bit ps) p (chosen bit l h) (Left el pages) mid
@@ -189,7 +191,7 @@ module _ {P : Type 0} (k : Kind P) (s : Sound k) (card : Card) (ps : List P) (e 
         omega arith
 
     -- the page had no other point
-    pub pair_gone : live (code_of k) p (below_it (chosen bit l h)) ≡ true → length (without_point (code_of k) p (below_it (chosen bit l h))) ≡ 0 → Shrunk k card ps p (directory_at q x.depth l h) (Left other (Some (e.page, own.page))) card
+    pub pair_gone : live (code_of k) p (below_it (chosen bit l h)) ≡ true → length (without_point (code_of k) p (below_it (chosen bit l h))) ≡ 0 → Shrunk k card ps p (directory_at q x.depth l h) (Left other (Some (record { fork = e.page; leaf = own.page }))) card
     pair_gone on none =
         let sub = leaf_gone k card (below_it (chosen bit l h)) p (number (chosen bit l h)) on none in
         let there = subst (λ t. Shrunk k card (below_it (chosen bit l h)) p t (Gone (number (chosen bit l h))) card) (sym own_leaf) sub in
@@ -201,7 +203,7 @@ module _ {P : Type 0} (k : Kind P) (s : Sound k) (card : Card) (ps : List P) (e 
     pub pair_merged : (v : Entry P) (xs : List P) (after : Card) → xs ≡ chosen bit (without_point (code_of k) p (below_it (chosen bit l h)) ++ below_it (chosen bit h l)) (below_it (chosen bit h l) ++ without_point (code_of k) p (below_it (chosen bit l h)))
         → live (code_of k) p (below_it (chosen bit l h)) ≡ true → 1 ≤ length (without_point (code_of k) p (below_it (chosen bit l h))) → summary k v ≡ entry k (data_at own.page xs)
         → after ≡ set card own.page (encode k (data_view (map k.coords xs)))
-        → Shrunk k card ps p (directory_at q x.depth l h) (Left v (Some (e.page, other.page))) after
+        → Shrunk k card ps p (directory_at q x.depth l h) (Left v (Some (record { fork = e.page; leaf = other.page }))) after
     pair_merged v xs after all on some is written =
         let n = x.depth in
         let r = number (chosen bit l h) in
@@ -209,7 +211,7 @@ module _ {P : Type 0} (k : Kind P) (s : Sound k) (card : Card) (ps : List P) (e 
         let len = ap length all ∙ chosen_length bit (without_point (code_of k) p (below_it (chosen bit l h))) (below_it (chosen bit h l)) in
         let bytes = encode k (data_view (map k.coords xs)) in
         let sh = side_merged k p q n l h bit a_bit r (number (chosen bit h l)) (below_it (chosen bit l h)) (below_it (chosen bit h l)) own_leaf other_leaf d.bit_is some (subst (λ ys. length ys ≤ k.capacity) all (omega arith)) in
-        subst (Shrunk k card ps p (directory_at q n l h) (Left v (Some (e.page, other.page)))) (sym (written ∙ ap (λ i. set card i bytes) own_page)) (record {
+        subst (Shrunk k card ps p (directory_at q n l h) (Left v (Some (record { fork = e.page; leaf = other.page })))) (sym (written ∙ ap (λ i. set card i bytes) own_page)) (record {
           was_live = sym live_there ∙ on;
           left = Some (data_at r xs);
           shrinks = subst (λ i. Shrinks (code_of k) (wide k) k.capacity p (directory_at q n l h) (Some (data_at r xs)) (i ∷ (other.page ∷ []))) (sym page_is)

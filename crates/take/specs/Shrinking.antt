@@ -16,13 +16,14 @@ use Rattle.tree.specs.Laid.{Laid, directory_at, numbers, below_it, agrees, way}
 use Rattle.tree.specs.Lawful.{Card, entry, root_parts, Holds, KeptBut}
 use Rattle.growth.specs.Shrinks.{Shrinks}
 use Rattle.access.specs.Reached.{Reached}
+use Rattle.take.specs.declared.taken.FreedPages.{FreedPages}
 use Rattle.take.specs.declared.taken.Taken.{Taken}
 use Rattle.take.specs.declared.taken.Taken.TheVariants.{Gone, Left}
 
 -- two pages, or none
-abbrev pub both : Option (ℕ × ℕ) → List ℕ
+abbrev pub both : Option FreedPages → List ℕ
 both None = []
-both (Some x) = x.0 ∷ (x.1 ∷ [])
+both (Some x) = x.fork ∷ (x.leaf ∷ [])
 
 -- the entry of two halves, with so many points, at page q
 abbrev pub above_both : ℕ → ℕ → Summary → Summary → Summary

@@ -7,14 +7,14 @@ ghost use Rattle.take.specs.Shrinking.{TakeEnd, AnyEnd, Shrinking};
 
 use crate::leaf::take_here;
 use crate::pair::take_pair;
-use crate::sides::{narrowed, sides, with_half};
-use crate::taken::Taken;
-use access::{load, put_page};
+use crate::sides::narrowed;
+use crate::taken::{FreedPages, Taken};
+use access::{fork_of, load_node, put_page, sides};
 use kinds::kind::PointKind;
-use kinds::points::{bit, capacity, depth};
+use kinds::points::{bit, depth};
 use page::encode::directory_page;
 use page::entry::Entry;
-use page::tree_page::{Node, read_node};
+use page::tree_page::Node;
 use refusal::Refusal;
 use store::page_store::PageStore;
 
@@ -32,12 +32,7 @@ pub(crate) fn take_below<K: PointKind, S: PageStore>(
     ensures lawful { (ps : List K) (t : Laid K) → Shrinking K.PointKind.kind (S.PageStore.pages store.old) ps (summary K.PointKind.kind at) above t → TakeEnd K.PointKind.kind (S.PageStore.pages store.old) ps p.now t result (S.PageStore.pages store.new) }
     ensures always { AnyEnd (S.PageStore.pages store.old) result (S.PageStore.pages store.new) }
 {
-    let Ok(bytes) = load(store, at.page as usize) else {
-        return Err(Refusal::Damaged);
-    };
-    let Ok(node) = read_node::<K>(at.page as usize, &bytes) else {
-        return Err(Refusal::Damaged);
-    };
+    let (bytes, node) = load_node::<K, S>(store, at.page)?;
     let Node::Directory(fork) = node else {
         return take_here(store, at.page, &bytes, p);
     };
@@ -48,16 +43,22 @@ pub(crate) fn take_below<K: PointKind, S: PageStore>(
         return Err(Refusal::Absent);
     }
     let side = bit(p, fork.depth);
-    if at.count as usize <= capacity::<K>() + 1 {
+    if at.count as usize <= K::CAPACITY + 1 {
         return take_pair(store, &at, &fork, side, p);
     }
     let (own, other) = sides(&fork, side);
     match take_below(store, own, p, fork.depth + 1)? {
-        Taken::Gone(page) => Ok(Taken::Left(other, Some((at.page, page)))),
+        Taken::Gone(leaf) => {
+            let freed = FreedPages {
+                fork: at.page,
+                leaf,
+            };
+            Ok(Taken::Left(other, Some(freed)))
+        }
         Taken::Left(half, freed) => {
-            let next = with_half(&fork, side, &half);
+            let next = fork_of(fork.depth, side, &half, &other);
             let written = directory_page::<K>(next.depth as u8, &next.low, &next.high);
-            put_page(store, at.page as usize, &written);
+            put_page(store, usize::from(at.page), &written);
             Ok(Taken::Left(narrowed(&at, &next), freed))
         }
     }

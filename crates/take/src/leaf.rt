@@ -39,7 +39,7 @@ pub(crate) fn take_here<K: PointKind, S: PageStore>(
     if rest.count() == 0 {
         return Ok(Taken::Gone(page));
     }
-    put_page(store, page as usize, &rest.page());
+    put_page(store, usize::from(page), &rest.page());
     Ok(Taken::Left(rest.entry(page), None))
 }
 
@@ -52,11 +52,6 @@ pub(crate) fn points_at<K: PointKind, S: PageStore>(
     ensures sane { MatchResult result (λ h. (page < length (S.PageStore.pages store.old)) × (1 ≤ length (listed h)) × (length (listed h) ≤ K.PointKind.kind.capacity) × AllByRecursion (On K.PointKind.kind) (listed h)) (λ e. number e ≡ 9) }
     ensures keeps { S.PageStore.pages store.new ≡ S.PageStore.pages store.old }
 {
-    let Ok(bytes) = load(store, page as usize) else {
-        return Err(Refusal::Damaged);
-    };
-    match Hand::<K>::of_page(&bytes) {
-        Some(points) => Ok(points),
-        None => Err(Refusal::Damaged),
-    }
+    let bytes = load(store, usize::from(page))?;
+    Hand::<K>::of_page(&bytes).ok_or(Refusal::Damaged)
 }

@@ -7,10 +7,9 @@ ghost use Rattle.take.specs.Taking.{TakeStep, TakeAny};
 
 use crate::below::take_below;
 use crate::release::release;
-use access::{load, put_page};
+use access::{load_head, put_page};
 use kinds::kind::PointKind;
 use page::encode::head_page;
-use page::head_page::{Head, read_head};
 use refusal::Refusal;
 use store::page_store::PageStore;
 
@@ -30,22 +29,17 @@ pub fn take<K: PointKind, S: PageStore>(store: &mut S, p: &K) -> Result<(), Refu
     if !p.on_axes() {
         return Err(Refusal::OffAxis);
     }
-    let Ok(bytes) = load(store, 0) else {
-        return Err(Refusal::Damaged);
-    };
-    let Ok(head) = read_head::<K>(0, &bytes) else {
-        return Err(Refusal::Damaged);
-    };
-    let Head { first, free, root } = head;
+    let head = load_head::<K, S>(store)?;
+    let root = head.root;
     let Some(root) = root else {
         return Err(Refusal::Absent);
     };
     // two more pages may become free, and their number has two bytes
-    if free > u16::MAX - 2 {
+    if head.free > u16::MAX - 2 {
         return Err(Refusal::Damaged);
     }
     let taken = take_below(store, root, p, 0)?;
-    let next = release(store, &taken, first, free);
+    let next = release(store, &taken, &head);
     put_page(store, 0, &head_page::<K>(&next));
     Ok(())
 }

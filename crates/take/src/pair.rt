@@ -5,11 +5,10 @@ ghost use Rattle.tree.specs.Laid.{Laid, directory_at};
 ghost use Rattle.take.specs.Shrinking.{TakeEnd, AnyEnd, Divided};
 
 use crate::leaf::points_at;
-use crate::sides::{in_order, sides};
-use crate::taken::Taken;
-use access::put_page;
+use crate::sides::in_order;
+use crate::taken::{FreedPages, Taken};
+use access::{put_page, sides};
 use kinds::kind::PointKind;
-use kinds::points::capacity;
 use page::directory_page::Fork;
 use page::entry::Entry;
 use refusal::Refusal;
@@ -30,23 +29,27 @@ pub(crate) fn take_pair<K: PointKind, S: PageStore>(
     ensures always { AnyEnd (S.PageStore.pages store.old) result (S.PageStore.pages store.new) }
 {
     let (own, other) = sides(fork, bit);
-    let Ok(points) = points_at::<K, S>(store, own.page) else {
-        return Err(Refusal::Damaged);
-    };
-    let Ok(beside) = points_at::<K, S>(store, other.page) else {
-        return Err(Refusal::Damaged);
-    };
+    let points = points_at::<K, S>(store, own.page)?;
+    let beside = points_at::<K, S>(store, other.page)?;
     if !points.holds(p) {
         return Err(Refusal::Absent);
     }
     let rest = points.without(p);
     if rest.count() == 0 {
-        return Ok(Taken::Left(other, Some((at.page, own.page))));
+        let freed = FreedPages {
+            fork: at.page,
+            leaf: own.page,
+        };
+        return Ok(Taken::Left(other, Some(freed)));
     }
-    if rest.count() + beside.count() > capacity::<K>() {
+    if rest.count() + beside.count() > K::CAPACITY {
         return Err(Refusal::Damaged);
     }
     let all = in_order(bit, &rest, &beside);
-    put_page(store, own.page as usize, &all.page());
-    Ok(Taken::Left(all.entry(own.page), Some((at.page, other.page))))
+    put_page(store, usize::from(own.page), &all.page());
+    let freed = FreedPages {
+        fork: at.page,
+        leaf: other.page,
+    };
+    Ok(Taken::Left(all.entry(own.page), Some(freed)))
 }

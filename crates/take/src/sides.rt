@@ -1,4 +1,4 @@
-// The two halves of a directory page, as the bit of a point orders them: its own half and the other.
+// The two halves of a directory page, as one: their points, and their entry.
 ghost use Rattle.std.specs.Prelude.{◌≡◌, ◌+◌, ◌-◌, ◌≤◌, ◌++◌, length};
 ghost use Rattle.page.specs.Checks.{summary};
 ghost use Rattle.hand.specs.Hands.{listed};
@@ -9,39 +9,6 @@ use hand::points::Hand;
 use kinds::kind::PointKind;
 use page::directory_page::Fork;
 use page::entry::Entry;
-
-// The entry of the half of a bit, and that of the other half.
-pub(crate) fn sides<K: PointKind>(fork: &Fork<K>, bit: u64) -> (Entry<K>, Entry<K>)
-    ensures own { result.0 ≡ chosen bit fork.now.low fork.now.high }
-    ensures other { result.1 ≡ chosen bit fork.now.high fork.now.low }
-{
-    if bit == 0 {
-        (fork.low, fork.high)
-    } else {
-        (fork.high, fork.low)
-    }
-}
-
-// The directory page with another entry for the half of a bit.
-pub(crate) fn with_half<K: PointKind>(fork: &Fork<K>, bit: u64, half: &Entry<K>) -> Fork<K>
-    ensures depth { result.depth ≡ fork.now.depth }
-    ensures low { result.low ≡ chosen bit half.now fork.now.low }
-    ensures high { result.high ≡ chosen bit fork.now.high half.now }
-{
-    if bit == 0 {
-        Fork {
-            depth: fork.depth,
-            low: *half,
-            high: fork.high,
-        }
-    } else {
-        Fork {
-            depth: fork.depth,
-            low: fork.low,
-            high: *half,
-        }
-    }
-}
 
 // The points of the half of a bit and those of the other half, in rising code.
 pub(crate) fn in_order<K: PointKind>(bit: u64, own: &Hand<K>, other: &Hand<K>) -> Hand<K>

@@ -11,7 +11,7 @@ ghost use Rattle.hand.specs.Hands.{listed, HoldsAll};
 use crate::places::Four;
 use crate::points::Hand;
 use kinds::kind::PointKind;
-use kinds::points::{bit as bit_of, data_kind, size};
+use kinds::points::bit as bit_of;
 use page::data_page::DataView;
 use page::entry::Entry;
 
@@ -157,9 +157,9 @@ impl<K: PointKind> Hand<K> {
         ensures { result ≡ encode K.PointKind.kind (data_view (map K.PointKind.kind.coords (listed self.now))) }
     {
         let mut page = [0; 64];
-        page[0] = data_kind::<K>();
+        page[0] = K::DATA_PAGE;
         page[1] = self.count as u8;
-        let size = size::<K>();
+        let size = K::SIZE;
         for i in 0..self.count {
             let at = 2 + i * size;
             self.point(i).write(&mut page[at..at + size]);

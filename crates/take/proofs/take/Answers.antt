@@ -1,13 +1,12 @@
-use Rattle.std.proofs.Common.{◌≡◌, ℕ, ◌+◌, ◌<◌, List, length, set, Some, Err, Option, sym, refl, ap, ◌∙◌, subst, ap₂, inl, inr, arith}
+use Rattle.std.proofs.Common.{◌≡◌, ℕ, ◌+◌, ◌<◌, List, length, set, Err, Option, sym, refl, ap, ◌∙◌, subst, ap₂, inl, inr, arith}
 use Rattle.std.specs.List.{AllByRecursion}
 use Rattle.std.proofs.lemmas.List.{length-set}
 use Rattle.std.proofs.lemmas.Result.{err_from_is_err_and}
-use Rattle.page.specs.declared.head_page.Head.{Head}
 use Rattle.page.specs.Form.{Summary, head_view, encode}
-use Rattle.page.specs.Checks.{HeadRead, root_summary, summary}
+use Rattle.page.specs.Checks.{root_summary, summary}
 use Rattle.tree.specs.Lawful.{Card}
 use Rattle.tree.specs.Book.{Takes, take_off, take_absent, take_done}
-use Rattle.access.proofs.Heads.{never_headless, head_is, no_root, rooted}
+use Rattle.access.proofs.Heads.{no_root, rooted}
 use Rattle.take.specs.Shrinking.{freed, front_of, linked, left_entry, Shrunk, Shrinking}
 use Rattle.take.proofs.Cards.{linked_size, live_has, live_has_not, root_shrinking, few_free, take_changed}
 use Rattle.take.proofs.take.Goals as goal
@@ -18,55 +17,42 @@ returns-then-not-on_axes g c =
     let off = c.if-not-on_axes.ensures in
     record { lawful = λ ps w. record { answers = take_off off; leaves = refl }; always = (refl, inl (off, refl)) }
 
--- page 0 of a lawful card is there
-pub returns-in_default : goal.returns-in_default
-returns-in_default g c = record {
-  lawful = λ ps w. let a = w.size.0 in absurd (c.in_default.ensures.gives.1 (omega arith));
-  always = (c.load.ensures.keeps, inr (c.if-not-on_axes.ensures, inl refl));
-}
-
 -- the head of a lawful card is read
-pub returns-in_default-read_head : goal.returns-in_default-read_head
-returns-in_default-read_head g c =
-    let k = g.K.PointKind.kind in
-    let bs = c.in-Ok.bytes in
-    record {
-      lawful = λ ps w. absurd (never_headless k g.met.K.PointKind.sound _ ps w {X = Head g.row.K.Denot} bs (λ x. HeadRead k bs (Some x)) c.in_default-read_head.field-0 c.in-Ok.ensures.gives.1 c.in_default-read_head.ensures);
-      always = (c.load.ensures.keeps, inr (c.if-not-on_axes.ensures, inl refl));
-    }
+pub returns-in_err-head-clause-lawful : goal.returns-in_err-head-clause-lawful
+returns-in_err-head-clause-lawful g c ps w = absurd (c.in_err-head.ensures.lawful ps w)
 
 -- an empty draft
-pub returns-in_default-root : goal.returns-in_default-root
-returns-in_default-root g c =
+pub returns-in_default : goal.returns-in_default
+returns-in_default g c =
     let k = g.K.PointKind.kind in
     let s = g.met.K.PointKind.sound in
     let card = g.S.PageStore.pages c.args.store.now in
     let p = c.args.p.now in
     let on = c.if-not-on_axes.ensures in
-    let keeps = c.load.ensures.keeps in
+    let keeps = c.load_head.ensures.keeps in
     record {
       lawful = λ ps w.
-          let h = head_is k s card ps w c.in-Ok.bytes _ _ _ c.in-Ok.ensures.gives.1 c.in-Ok-read_head.ensures.1 in
-          let none = (no_root k s card ps w (h.2 ∙ ap (root_summary k) c.in_default-root.is)).1 in
+          let h = c.in_ok-head.ensures.lawful ps w in
+          let none = (no_root k s card ps w (h.2 ∙ ap (root_summary k) c.in_default.is)).1 in
           record { answers = take_absent on (λ has. let a = has.1 in let b = ap length none in omega arith); leaves = keeps };
       always = (keeps, inr (on, inr refl));
     }
 
 -- so many pages cannot be free
-pub returns-then-free : goal.returns-then-free
-returns-then-free g c =
+pub returns-then-head : goal.returns-then-head
+returns-then-head g c =
     let k = g.K.PointKind.kind in
     let s = g.met.K.PointKind.sound in
     let card = g.S.PageStore.pages c.args.store.now in
     let p = c.args.p.now in
     let on = c.if-not-on_axes.ensures in
-    let keeps = c.load.ensures.keeps in
+    let keeps = c.load_head.ensures.keeps in
     record {
       lawful = λ ps w.
-          let h = head_is k s card ps w c.in-Ok.bytes _ _ _ c.in-Ok.ensures.gives.1 c.in-Ok-read_head.ensures.1 in
+          let h = c.in_ok-head.ensures.lawful ps w in
           let r = rooted k s card ps w (summary k c.in-Some.root) (h.2 ∙ ap (root_summary k) c.in-Some.is) in
           let few = few_free k s card ps w p r.tree r.is_root in
-          absurd (omega (arith, h.1, c.if-free.true));
+          absurd (omega (arith, h.1, c.if-head.true));
       always = (keeps, inr (on, inl refl));
     }
 
@@ -78,12 +64,12 @@ returns-in_err-taken g c =
     let card = g.S.PageStore.pages c.args.store.now in
     let p = c.args.p.now in
     let on = c.if-not-on_axes.ensures in
-    let keeps = c.load.ensures.keeps in
-    let exit = err_from_is_err_and c.from_residual.result c.from_residual.ensures.1 in
+    let keeps = c.load_head.ensures.keeps in
+    let exit = err_from_is_err_and c.from_residual-in_err-taken.result c.from_residual-in_err-taken.ensures.1 in
     let sub = c.in_err-taken.ensures in
     record {
       lawful = λ ps w.
-          let h = head_is k s card ps w c.in-Ok.bytes _ _ _ c.in-Ok.ensures.gives.1 c.in-Ok-read_head.ensures.1 in
+          let h = c.in_ok-head.ensures.lawful ps w in
           let r = rooted k s card ps w (summary k c.in-Some.root) (h.2 ∙ ap (root_summary k) c.in-Some.is) in
           let reached = subst (λ (a : Card). Shrinking k a ps (summary k c.in-Some.root) 0 r.tree) (sym keeps) (root_shrinking k s card ps w p (summary k c.in-Some.root) r.tree r.is_root r.entry_is) in
           let no = sub.lawful ps r.tree reached in
@@ -99,11 +85,11 @@ returns g c =
     let card = g.S.PageStore.pages c.args.store.now in
     let p = c.args.p.now in
     let on = c.if-not-on_axes.ensures in
-    let keeps = c.load.ensures.keeps in
+    let keeps = c.load_head.ensures.keeps in
     let sub = c.in_ok-taken.ensures in
     let taken = c.in_ok-taken.taken in
-    let first = c.in-Ok-read_head.head.first in
-    let free = c.in-Ok-read_head.head.free in
+    let first = c.in_ok-head.head.first in
+    let free = c.in_ok-head.head.free in
     let mid = g.S.PageStore.pages c.take_below.new.store in
     let after = g.S.PageStore.pages c.put_page.new.store in
     let next = c.release-next.result in
@@ -117,7 +103,7 @@ returns g c =
     let within = subst (λ (a : Card). AllByRecursion (λ q. q < length a) (freed taken)) keeps sub.always.1 in
     record {
       lawful = λ ps w.
-          let h = head_is k s card ps w c.in-Ok.bytes _ _ _ c.in-Ok.ensures.gives.1 c.in-Ok-read_head.ensures.1 in
+          let h = c.in_ok-head.ensures.lawful ps w in
           let r = rooted k s card ps w (summary k c.in-Some.root) (h.2 ∙ ap (root_summary k) c.in-Some.is) in
           let reached = subst (λ (a : Card). Shrinking k a ps (summary k c.in-Some.root) 0 r.tree) (sym keeps) (root_shrinking k s card ps w p (summary k c.in-Some.root) r.tree r.is_root r.entry_is) in
           let shrunk = subst (λ (a : Card). Shrunk k a ps p r.tree taken mid) keeps (sub.lawful ps r.tree reached) in

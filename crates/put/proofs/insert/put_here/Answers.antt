@@ -1,11 +1,10 @@
-use Rattle.std.proofs.Common.{◌≡◌, ◌<◌, ◌≤◌, false, map, length, set, sym, refl, ap, ◌∙◌, subst, inl, inr, arith}
+use Rattle.std.proofs.Common.{◌≡◌, ◌<◌, ◌≤◌, false, map, length, sym, refl, ap, ◌∙◌, subst, arith}
 use Rattle.std.specs.List.{AllByRecursion}
-use Rattle.std.proofs.lemmas.List.{length-set}
 use Rattle.kinds.specs.Kind.{On, code_of}
 use Rattle.page.specs.Form.{data_view, encode}
 use Rattle.tree.specs.Sets.{live, with_point}
-use Rattle.tree.specs.Lawful.{Card}
 use Rattle.tree.proofs.Halves.{all_with, length_with}
+use Rattle.access.proofs.Writes.{written_as}
 use Rattle.hand.specs.Hands.{listed}
 use Rattle.put.specs.Spares.{spares}
 use Rattle.put.specs.Growing.{Split, Mixed}
@@ -13,18 +12,13 @@ use Rattle.put.proofs.Splits.{entry_of, with_mixed, split_size}
 use Rattle.put.proofs.Here.{here_live, here_room, here_full, here_split}
 use Rattle.put.proofs.insert.put_here.Goals as goal
 
-pub returns-then-holds : goal.returns-then-holds
-returns-then-holds g c =
-    let k = g.K.PointKind.kind in
-    record {
-      lawful = λ ps above q w. here_live k g.met.K.PointKind.sound _ ps _ c.args.spare above q _ c.args.p.now w (sym c.holds.ensures ∙ c.if-holds.true);
-      always = (refl, inr (inl refl));
-    }
+pub returns-then-holds-clause-lawful : goal.returns-then-holds-clause-lawful
+returns-then-holds-clause-lawful g c ps above q w = here_live g.K.PointKind.kind g.met.K.PointKind.sound _ ps _ c.args.spare above q _ c.args.p.now w (sym c.holds.ensures ∙ c.if-holds.true)
 
 pub page-requires : goal.page-requires
 page-requires g c =
     let l = ap length c.with-all.ensures ∙ length_with (code_of g.K.PointKind.kind) c.args.p.now (listed c.args.points.now) in
-    omega (arith, l, c.count.ensures, c.capacity.ensures, c.if-count-capacity.true)
+    omega (arith, l, c.count.ensures, c.CAPACITY.ensures, g.met.K.PointKind.constants.1, c.if-count-CAPACITY.true)
 
 pub entry-requires : goal.entry-requires
 entry-requires g c =
@@ -32,33 +26,22 @@ entry-requires g c =
     omega arith
 
 -- a page with room
-pub returns-then-count-capacity : goal.returns-then-count-capacity
-returns-then-count-capacity g c =
+pub returns-then-count-CAPACITY-clause-lawful : goal.returns-then-count-CAPACITY-clause-lawful
+returns-then-count-CAPACITY-clause-lawful g c ps above q w =
     let k = g.K.PointKind.kind in
     let s = g.met.K.PointKind.sound in
-    let p = c.args.p.now in
     let e = c.entry.ensures in
-    let card = g.S.PageStore.pages c.args.store.now in
-    let new : live (code_of k) p (listed c.args.points.now) ≡ false = sym c.holds.ensures ∙ c.if-holds.false in
-    let lt : length (listed c.args.points.now) < k.capacity = omega (arith, c.count.ensures, c.capacity.ensures, c.if-count-capacity.true) in
-    let wrote : ◌≡◌ {A = Card} (g.S.PageStore.pages c.put_page.new.store) (set card c.args.at.now.page (encode k (data_view (map k.coords (with_point (code_of k) p (listed c.args.points.now)))))) =
-    c.put_page.ensures ∙ ap (λ b. set card c.args.at.now.page b) (c.page.ensures ∙ ap (λ ys. encode k (data_view (map k.coords ys))) c.with-all.ensures) in
-    record {
-      lawful = λ ps above q w. here_room k s _ ps _ c.args.spare above q _ p w new _ _ lt (entry_of k s c.entry.result c.args.at.now.page _ _ c.with-all.ensures e.page e.count e.low e.high) refl wrote;
-      always = ap length wrote ∙ length-set card c.args.at.now.page _;
-    }
+    let xs = listed c.args.points.now in
+    let lt : length xs < k.capacity = omega (arith, c.count.ensures, c.CAPACITY.ensures, g.met.K.PointKind.constants.1, c.if-count-CAPACITY.true) in
+    here_room k s _ ps _ c.args.spare above q _ c.args.p.now w (sym c.holds.ensures ∙ c.if-holds.false) _ _ lt (entry_of k s c.entry.result c.args.at.now.page _ _ c.with-all.ensures e.page e.count e.low e.high) refl
+    (written_as c.put_page.ensures refl c.from.ensures (c.page.ensures ∙ ap (λ ys. encode k (data_view (map k.coords ys))) c.with-all.ensures))
 
 -- a full page, and no pages at hand
-pub returns-in_default : goal.returns-in_default
-returns-in_default g c =
+pub returns-in_default-clause-lawful : goal.returns-in_default-clause-lawful
+returns-in_default-clause-lawful g c ps above q w =
     let k = g.K.PointKind.kind in
-    let s = g.met.K.PointKind.sound in
-    let new : live (code_of k) c.args.p.now (listed c.args.points.now) ≡ false = sym c.holds.ensures ∙ c.if-holds.false in
-    let is_full : k.capacity ≤ length (listed c.args.points.now) = omega (arith, c.count.ensures, c.capacity.ensures, c.if-count-capacity.false) in
-    record {
-      lawful = λ ps above q w. here_full k s _ ps _ c.args.spare above q _ c.args.p.now w new is_full c.requires.on c.in_default.is;
-      always = (refl, inr (inr refl));
-    }
+    let is_full : k.capacity ≤ length (listed c.args.points.now) = omega (arith, c.count.ensures, c.CAPACITY.ensures, g.met.K.PointKind.constants.1, c.if-count-CAPACITY.false) in
+    here_full k g.met.K.PointKind.sound _ ps _ c.args.spare above q _ c.args.p.now w (sym c.holds.ensures ∙ c.if-holds.false) is_full c.requires.on c.in_default.is
 
 pub split-requires : goal.split-requires
 split-requires g c =
@@ -67,7 +50,7 @@ split-requires g c =
     let p = c.args.p.now in
     let xs = listed c.args.points.now in
     let new : live (code_of k) p xs ≡ false = sym c.holds.ensures ∙ c.if-holds.false in
-    let is_full : k.capacity ≤ length xs = omega (arith, c.count.ensures, c.capacity.ensures, c.if-count-capacity.false) in
+    let is_full : k.capacity ≤ length xs = omega (arith, c.count.ensures, c.CAPACITY.ensures, g.met.K.PointKind.constants.1, c.if-count-CAPACITY.false) in
     let room = s.room in
     let most = c.requires.few in
     let all = c.with-all.ensures in
@@ -92,7 +75,7 @@ returns g c =
     let xs = listed c.args.points.now in
     let card = g.S.PageStore.pages c.args.store.now in
     let new : live (code_of k) p xs ≡ false = sym c.holds.ensures ∙ c.if-holds.false in
-    let is_full : k.capacity ≤ length xs = omega (arith, c.count.ensures, c.capacity.ensures, c.if-count-capacity.false) in
+    let is_full : k.capacity ≤ length xs = omega (arith, c.count.ensures, c.CAPACITY.ensures, g.met.K.PointKind.constants.1, c.if-count-CAPACITY.false) in
     let there = subst (λ o. AllByRecursion (λ q. q < length card) (spares o)) c.in-Some.is c.requires.spare_there in
     let done = subst (λ ys. Split k card ys c.args.at.now.page c.in-Some.pages c.split.result (g.S.PageStore.pages c.split.new.store)) c.with-all.ensures c.split.ensures in
     record {

@@ -1,8 +1,8 @@
-use Rattle.std.proofs.Common.{◌≡◌, ℕ, ◌≤◌, List, map, length, set, sym, refl, ap, ◌∙◌, subst, ap₂}
+use Rattle.std.proofs.Common.{ℕ, ◌≤◌, List, map, length, sym, refl, ap, ◌∙◌, subst, ap₂}
 use Rattle.zorder.specs.Halves.{half}
 use Rattle.kinds.specs.Kind.{code_of, wide}
 use Rattle.page.specs.Form.{Summary, data_view, directory_view, encode}
-use Rattle.tree.specs.Lawful.{Card}
+use Rattle.access.proofs.Writes.{written_as}
 use Rattle.hand.specs.Hands.{listed}
 use Rattle.put.proofs.Splits.{halves_of, depth_of, entry_of, low_corner_on, high_corner_on}
 use Rattle.put.proofs.insert.split.Goals as goal
@@ -83,17 +83,16 @@ returns g c =
     let x = c.args.spare in
     let lows = half (code_of k) (wide k) n 0 xs in
     let highs = half (code_of k) (wide k) n 1 xs in
-    let card = g.S.PageStore.pages c.args.store.now in
     let data_bytes : List _ → List ℕ = λ ys. encode k (data_view (map k.coords ys)) in
     let el = entry_of k s c.entry.result q _ lows c.half-low.ensures c.entry.ensures.page c.entry.ensures.count c.entry.ensures.low c.entry.ensures.high in
     let eh = entry_of k s c.entry-2.result x.leaf _ highs c.half-high.ensures c.entry-2.ensures.page c.entry-2.ensures.count c.entry-2.ensures.low c.entry-2.ensures.high in
     let e = c.entry-whole.ensures in
-    let one : ◌≡◌ {A = Card} (g.S.PageStore.pages c.put_page.new.store) (set card q (data_bytes lows)) = c.put_page.ensures ∙ ap (λ b. set card q b) (c.page.ensures ∙ ap data_bytes c.half-low.ensures) in
-    let two : ◌≡◌ {A = Card} (g.S.PageStore.pages c.put_page-2.new.store) (set (set card q (data_bytes lows)) x.leaf (data_bytes highs)) = c.put_page-2.ensures ∙ ap₂ (λ (a : Card) b. set a x.leaf b) one (c.page-2.ensures ∙ ap data_bytes c.half-high.ensures) in
+    let one = written_as c.put_page.ensures refl c.from.ensures (c.page.ensures ∙ ap data_bytes c.half-low.ensures) in
+    let two = written_as c.put_page-2.ensures one c.from-2.ensures (c.page-2.ensures ∙ ap data_bytes c.half-high.ensures) in
     record {
       depth = n;
       deep = depth_of k s _ _ _ xs c.requires.some c.requires.on e.low e.high c.depth-depth.ensures.set;
       entry_is = entry_of k s c.entry-whole.result x.fork xs xs refl e.page e.count e.low e.high;
       used = refl;
-      written = c.put_page-3.ensures ∙ ap₂ (λ (a : Card) b. set a x.fork b) two (c.fork_page-fork.ensures ∙ ap₂ (λ (a b : Summary). encode k (directory_view n a b)) el eh);
+      written = written_as c.put_page-3.ensures two c.from-3.ensures (c.fork_page-fork.ensures ∙ ap₂ (λ (a b : Summary). encode k (directory_view n a b)) el eh);
     }

@@ -1,8 +1,8 @@
-use Rattle.std.proofs.Common.{map, length, set, sym, refl, ap, ◌∙◌, arith}
-use Rattle.std.proofs.lemmas.List.{length-set}
+use Rattle.std.proofs.Common.{map, length, sym, refl, ap, ◌∙◌, arith}
 use Rattle.kinds.specs.Kind.{code_of}
 use Rattle.page.specs.Form.{data_view, encode}
 use Rattle.tree.specs.Sets.{live, without_point}
+use Rattle.access.proofs.Writes.{written_as}
 use Rattle.hand.specs.Hands.{listed}
 use Rattle.hand.proofs.Entries.{entry_of}
 use Rattle.take.proofs.DataPages.{few_left, leaf_gone, leaf_left}
@@ -31,20 +31,16 @@ page-requires g c =
     omega arith
 
 -- points are left
-pub returns : goal.returns
-returns g c =
+pub returns-clause-lawful : goal.returns-clause-lawful
+returns-clause-lawful g c ps r =
     let k = g.K.PointKind.kind in
     let C = code_of k in
     let p = c.args.p.now in
     let q = c.args.page in
     let card = g.S.PageStore.pages c.args.store.now in
-    record {
-      lawful = λ ps r.
-          let is = c.in-Some.ensures.tells ps r in
-          let left = c.without-rest.ensures ∙ ap (without_point C p) is in
-          let n = ap length left in
-          leaf_left k card ps p q c.entry.result (g.S.PageStore.pages c.put_page.new.store) (ap (live C p) (sym is) ∙ sym c.holds.ensures ∙ c.if-not-holds.false) (omega (arith, c.if-count-eq0.false, c.count.ensures)) c.requires.there
-          (entry_of k c.entry.result q (listed c.without-rest.result) (without_point C p ps) left c.entry.ensures.page c.entry.ensures.count c.entry.ensures.low c.entry.ensures.high)
-          (c.put_page.ensures ∙ ap (set card q) (c.page.ensures ∙ ap (λ xs. encode k (data_view (map k.coords xs))) left));
-      always = (ap length c.put_page.ensures ∙ length-set card q _, tt);
-    }
+    let is = c.in-Some.ensures.tells ps r in
+    let left = c.without-rest.ensures ∙ ap (without_point C p) is in
+    let n = ap length left in
+    leaf_left k card ps p q c.entry.result (g.S.PageStore.pages c.put_page.new.store) (ap (live C p) (sym is) ∙ sym c.holds.ensures ∙ c.if-not-holds.false) (omega (arith, c.if-count-eq0.false, c.count.ensures)) c.requires.there
+    (entry_of k c.entry.result q (listed c.without-rest.result) (without_point C p ps) left c.entry.ensures.page c.entry.ensures.count c.entry.ensures.low c.entry.ensures.high)
+    (written_as c.put_page.ensures refl c.from.ensures (c.page.ensures ∙ ap (λ xs. encode k (data_view (map k.coords xs))) left))

@@ -15,7 +15,7 @@ loop-i-init g c =
     let k = g.K.PointKind.kind in
     let n = count_is c.args.self.now in
     let e : c.args.self.now.count ≡ length (listed c.args.self.now) = sym n in
-    (refl, ap (λ x. padded (x ∷ (c.args.self.now.count ∷ []))) c.data_kind.ensures ∙ ap (λ x. padded (k.data_kind ∷ (x ∷ []))) e, omega arith)
+    (refl, ap (λ x. padded (x ∷ (c.args.self.now.count ∷ []))) (c.DATA_PAGE.ensures ∙ g.met.K.PointKind.constants.3) ∙ ap (λ x. padded (k.data_kind ∷ (x ∷ []))) e, omega arith)
 
 -- a point within the page
 fits : (g : given.Over) (i r : ℕ) → i < g.K.PointKind.kind.capacity → r ≡ size_of g.K.PointKind.kind → (2 + i * r) + r ≤ 64
@@ -24,7 +24,7 @@ fits g i r lt e = let k = g.K.PointKind.kind in let fit = g.met.K.PointKind.soun
 pub slice_bounds-page-end : goal.slice_bounds-page-end
 slice_bounds-page-end g c =
     let n = count_is c.args.self.now in
-    let w = fits g c.loop-i.i c.size-size.result (omega (arith, c.loop-i-test.true, c.requires)) c.size-size.ensures in
+    let w = fits g c.loop-i.i c.SIZE-size.result (omega (arith, c.loop-i-test.true, c.requires)) (c.SIZE-size.ensures ∙ g.met.K.PointKind.constants.2) in
     omega (arith, w, c.loop-i.invariant.0)
 
 pub loop-i-preserved : goal.loop-i-preserved
@@ -32,15 +32,15 @@ loop-i-preserved g c =
     let k = g.K.PointKind.kind in
     let ps = listed c.args.self.now in
     let i = c.loop-i.i in
-    let r = c.size-size.result in
+    let r = c.SIZE-size.result in
     let at = 2 + i * r in
     let s = size_of k in
     let J = flat_map (bytes_of k) (take i ps) in
     let p = c.point.result in
     let inv = c.loop-i.invariant in
     let cn = count_is c.args.self.now in
-    let same : i * r ≡ i * s = ap (λ x. i * x) c.size-size.ensures in
-    let w = fits g i r (omega (arith, c.loop-i-test.true, c.requires)) c.size-size.ensures in
+    let same : i * r ≡ i * s = ap (λ x. i * x) (c.SIZE-size.ensures ∙ g.met.K.PointKind.constants.2) in
+    let w = fits g i r (omega (arith, c.loop-i-test.true, c.requires)) (c.SIZE-size.ensures ∙ g.met.K.PointKind.constants.2) in
     let part = part_long at r c.loop-i.page (omega (arith, w, inv.0)) in
     let l : length (bytes_of k p) ≡ r = ap length (sym c.write.ensures) ∙ c.write.auto.out ∙ part in
     let x = adds_part at (at + r - at) c.loop-i.page c.write.new.out (bytes_of k p) (omega arith) c.write.ensures (omega (arith, w)) (k.data_kind ∷ (length ps ∷ J)) (omega (arith, inv.2, same)) inv.1 in
@@ -49,8 +49,8 @@ loop-i-preserved g c =
     let a = length-append J (bytes_of k p) in
     let e1 = add-mul i 1 s in
     let e2 = one-mul s in
-    let n : length (flat_map (bytes_of k) (take (i + 1) ps)) ≡ (i + 1) * s = ap length m ∙ omega (arith, a, l, inv.2, e1, e2, c.size-size.ensures) in
-    (ap length y ∙ padded_long (k.data_kind ∷ (length ps ∷ flat_map (bytes_of k) (take (i + 1) ps))) (omega (arith, n, e1, e2, w, same, c.size-size.ensures)), y, n)
+    let n : length (flat_map (bytes_of k) (take (i + 1) ps)) ≡ (i + 1) * s = ap length m ∙ omega (arith, a, l, inv.2, e1, e2, (c.SIZE-size.ensures ∙ g.met.K.PointKind.constants.2)) in
+    (ap length y ∙ padded_long (k.data_kind ∷ (length ps ∷ flat_map (bytes_of k) (take (i + 1) ps))) (omega (arith, n, e1, e2, w, same, (c.SIZE-size.ensures ∙ g.met.K.PointKind.constants.2))), y, n)
 
 pub returns : goal.returns
 returns g c =
