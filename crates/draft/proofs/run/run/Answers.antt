@@ -26,5 +26,5 @@ returns g c =
     let b = was_ok _ _ _ c.begin.result c.in_ok-draft.draft c.in_ok-draft.ensures.cases c.begin.ensures.card in
     mapped _ _ _ _ c.resume.result c.map_err-2.result c.map_err-2.ensures.cases
     (both _ _ _ _ c.resume.result c.resume.ensures.lawful c.resume.ensures.always (λ x made.
-        subst (λ n. Runs k n (begun_card k total) [] cs (vec_items x.1) (g.S.PageStore.pages x.0.store)) b.3 (subst (λ y. Runs k (length fresh) y [] cs (vec_items x.1) (g.S.PageStore.pages x.0.store)) b.2 (made [] b.4))))
+    subst (λ n. Runs k n (begun_card k total) [] cs (vec_items x.1) (g.S.PageStore.pages x.0.store)) b.3 (subst (λ y. Runs k (length fresh) y [] cs (vec_items x.1) (g.S.PageStore.pages x.0.store)) b.2 (made [] b.4))))
     (λ e d h q. absurd (omega (arith, h.1, c.if-capacity-len.false, c.capacity.ensures, c.len.ensures)))
