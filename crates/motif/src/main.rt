@@ -149,6 +149,18 @@ fn show_through(
     Ok(())
 }
 
+// Places the points of a motif, where each of its lines has one. The origin is as before.
+fn place_points(
+    origin: &mut Origin,
+    other: Origin,
+    points: Result<Vec<LayPoint>, Refusal>,
+) -> Result<(), Refusal>
+    ensures { origin.new ≡ origin.old }
+{
+    let mut points = points?;
+    place_all(origin, other, &mut points)
+}
+
 // Places the motif as one, which is refused where a point of it is, and prints what came of it. The origin is as before.
 fn show_whole(
     rt: &HostRuntime,
@@ -162,11 +174,7 @@ fn show_whole(
         .iter()
         .map(|drawn| drawn.point)
         .collect(rt.alloc())?;
-    let answer = match points {
-        Ok(mut points) => place_all(origin, other, &mut points),
-        Err(refusal) => Err(refusal),
-    };
-    match answer {
+    match place_points(origin, other, points) {
         Ok(()) => println!(rt; "the whole motif is placed there"),
         Err(refusal) => println!(rt; "the whole motif there: {refusal}"),
     }

@@ -35,9 +35,7 @@ fn gather_page<K: PointKind, G: Gather<K>>(
 {
     let view = DataView::<K>::over(bytes);
     for i in 0..view.count() {
-        let Some(p) = view.point(i) else {
-            return Err(Refusal::Damaged);
-        };
+        let p = view.point(i).ok_or(Refusal::Damaged)?;
         if window.corners.holds(&p) {
             gather.point(&p, buffer)?;
         }

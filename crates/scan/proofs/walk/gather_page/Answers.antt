@@ -13,19 +13,14 @@ moved : {A B C : Type 0} (M : A → B → C → Type 0) {a a' : A} {b b' : B} {x
 moved M {a} {a'} {b} {b'} {xs} {ys} e f h m = subst (λ x. M x b' ys) (sym e) (subst (λ x. M a x ys) (sym f) (subst (M a b) h m))
 
 -- a page that is read has a point at each place
-pub returns-in_default : goal.returns-in_default
-returns-in_default g c =
+pub returns-in_err-p-clause-lawful : goal.returns-in_err-p-clause-lawful
+returns-in_err-p-clause-lawful g c points rd before xs few met =
     let k = g.K.PointKind.kind in
-    record {
-      lawful = λ points rd before xs few met.
-          let r = subst (λ x. Reads k x (data_view (map k.coords points))) (sym c.over-view.ensures) rd in
-          let n = c.count-i-end.ensures (map k.coords points) r in
-          let m = c.in_default.ensures (map k.coords points) r in
-          omega (arith, c.loop-i-test.true);
-      always = λ before fair. tt;
-      refused = refl;
-      same = c.loop-i.invariant.2;
-    }
+    let r = subst (λ x. Reads k x (data_view (map k.coords points))) (sym c.over-view.ensures) rd in
+    let n = c.count-i-end.ensures (map k.coords points) r in
+    let m = rw c.in_err-p.ensures.ok_part at c.point.ensures in
+    let l = m (map k.coords points) r in
+    absurd (omega (arith, c.loop-i-test.true))
 
 -- a point of the window is never refused
 pub returns-in_err-point-clause-lawful : goal.returns-in_err-point-clause-lawful
@@ -33,8 +28,8 @@ returns-in_err-point-clause-lawful g c points rd before xs few met =
     let k = g.K.PointKind.kind in
     let w = c.args.window.now.corners in
     let i = c.loop-i.i in
-    let p = c.in-Some.p in
-    let h = point_here k g.met.K.PointKind.sound points i p (c.in-Some.ensures (map k.coords points) (subst (λ x. Reads k x (data_view (map k.coords points))) (sym c.over-view.ensures) rd)) in
+    let p = c.in_ok-p.p in
+    let h = point_here k g.met.K.PointKind.sound points i p ((rw c.in_ok-p.ensures.ok_part at c.point.ensures) (map k.coords points) (subst (λ x. Reads k x (data_view (map k.coords points))) (sym c.over-view.ensures) rd)) in
     absurd (c.in_err-point.ensures.lawful before (xs ++ windowed k w.low w.high (take i points)) (step_few k g.met.K.PointKind.sound w (whole c.args.window.now) points i p h.0 h.1 c.if-holds.ensures xs few) (c.loop-i.invariant.0 points rd before xs few met))
 
 pub loop-i-preserved : goal.loop-i-preserved
@@ -43,8 +38,8 @@ loop-i-preserved g c =
     let s = g.met.K.PointKind.sound in
     let w = c.args.window.now.corners in
     let i = c.loop-i.i in
-    let p = c.in-Some.p in
-    let at = λ (ps : List Point) (rd : Reads k c.args.bytes.now (data_view ps)). c.in-Some.ensures ps (subst (λ x. Reads k x (data_view ps)) (sym c.over-view.ensures) rd) in
+    let p = c.in_ok-p.p in
+    let at = λ (ps : List Point) (rd : Reads k c.args.bytes.now (data_view ps)). (rw c.in_ok-p.ensures.ok_part at c.point.ensures) ps (subst (λ x. Reads k x (data_view ps)) (sym c.over-view.ensures) rd) in
     let on = point_on k s c.args.bytes.now i p c.requires at in (
       (λ points rd before xs few met.
           let h = point_here k s points i p (at (map k.coords points) rd) in
