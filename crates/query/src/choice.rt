@@ -42,21 +42,14 @@ pub fn window<K: Coordinates>(query: &[Choice]) -> Result<Window<K>, Refusal>
         return Err(Refusal::OffAxis);
     }
     for (axis, choice) in query.iter().enumerate() {
-        // each refusal is written out here, as the proof does not close behind `?`
-        let Some((least, greatest)) = K::span(axis) else {
-            return Err(Refusal::OffAxis);
-        };
+        let (least, greatest) = K::span(axis).ok_or(Refusal::OffAxis)?;
         let (first, last) = choice.ends(least, greatest);
         low[axis] = first;
         high[axis] = last;
     }
     let lows = &low[..];
     let highs = &high[..];
-    let Some(low) = K::at(&lows[..count]) else {
-        return Err(Refusal::OffAxis);
-    };
-    let Some(high) = K::at(&highs[..count]) else {
-        return Err(Refusal::OffAxis);
-    };
+    let low = K::at(&lows[..count]).ok_or(Refusal::OffAxis)?;
+    let high = K::at(&highs[..count]).ok_or(Refusal::OffAxis)?;
     Ok(Window { low, high })
 }
