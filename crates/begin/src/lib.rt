@@ -24,6 +24,7 @@ pub fn begin<K: PointKind, S: PageStore>(store: &mut S) -> Result<(), Refusal>
     }
     let head = Head::<K> {
         first: 1,
+        // a cast, as the number fits: `try_from` would add a refusal that never comes
         free: (count - 1) as u16,
         root: None,
     };
@@ -38,6 +39,7 @@ fn next_page(page: usize, count: usize) -> u16
     ensures { result ≡ (if nat_lt (page + 1) count then page + 1 else 0) }
 {
     if page < count - 1 {
+        // a cast, as the number fits
         (page + 1) as u16
     } else {
         0

@@ -31,6 +31,7 @@ impl BarPoint {
         [
             u32::from(self.course),
             u32::from(self.bar),
+            // a cast, as the difference is not negative on the axis
             (i32::from(self.shog) - i32::from(Shog::LEAST)) as u32,
         ]
     }

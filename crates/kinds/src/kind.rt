@@ -36,7 +36,8 @@ pub trait PointKind: Copy {
     fn on_axes(&self) -> bool
         ensures { Whether result (On kind self.now) };
 
-    // The code of a point on its axes.
+    // The code of a point on its axes. That it lies there is a clause, here and in all code above, and no type of its own:
+    // a call is lent any point and tests it once, and each clause that names the point would have to take the type apart.
     fn code(&self) -> u64
         requires { On kind self.now }
         ensures { result ≡ code_of kind self.now };

@@ -26,6 +26,7 @@ impl LayPoint {
     {
         [
             u32::from(self.course),
+            // a cast, as the difference is not negative on the axis
             (i32::from(self.shog) - i32::from(Shog::LEAST)) as u32,
         ]
     }

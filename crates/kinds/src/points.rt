@@ -16,7 +16,7 @@ pub fn inside<K: PointKind>(p: &K, low: &K, high: &K) -> bool
     low.under(p) && p.under(high)
 }
 
-// Whether two points are one: their coordinates are equal.
+// Whether two points are one: their coordinates are equal. No kind has to bring an equality of its own for that.
 pub fn same<K: PointKind>(a: &K, b: &K) -> bool
     ensures coordinates { Whether result (K.PointKind.kind.coords a.now ≡ K.PointKind.kind.coords b.now) }
     ensures points { Whether result (a.now ≡ b.now) }

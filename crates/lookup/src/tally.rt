@@ -21,6 +21,7 @@ pub fn tally<K: PointKind, S: PageStore>(store: &mut S) -> Result<Tally, Refusal
     if count > 65535 || count <= usize::from(head.free) {
         return Err(Refusal::Damaged);
     }
+    // a cast, as the number fits
     let tree_pages = count as u32 - 1 - free_pages;
     let points = head.root.map_or(0, |root| root.count);
     Ok(Tally {

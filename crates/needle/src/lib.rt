@@ -31,6 +31,7 @@ pub fn split(shog: i16) -> Result<Needles, Refusal>
     let half_needles = Shog::new(shog)?.half_needles();
     Ok(Needles {
         whole: half_needles.div_euclid(2),
+        // a cast, as the rest is 0 or 1
         half: half_needles.rem_euclid(2) as u8,
     })
 }

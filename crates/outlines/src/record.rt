@@ -27,7 +27,7 @@ impl From<Sort> for u8 {
     }
 }
 
-// Some bytes at a place.
+// Some bytes at a place. Promised in the words of a record, with the rest of the buffer kept, which no function for any slice has.
 fn put_bytes(buffer: &mut [u8], at: usize, bytes: &[u8])
     requires { at + length bytes.now ≤ length buffer.old }
     ensures { Wrote buffer.old at bytes.now buffer.new }
@@ -57,6 +57,7 @@ pub(crate) fn put_record<K: PointKind>(buffer: &mut [u8], at: usize, sort: Sort,
     let shared = depth(&entry.low, &entry.high);
     put_bytes(buffer, at, &[u8::from(sort)]);
     put_bytes(buffer, at + 1, &entry.count.to_le_bytes());
+    // a cast, as no code has more than 60 bits
     put_bytes(buffer, at + 5, &[shared as u8]);
     put_point(buffer, at + 6, &entry.low);
     put_point(buffer, at + 6 + K::SIZE, &entry.high);

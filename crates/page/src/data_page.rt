@@ -74,6 +74,7 @@ impl<'a, K: PointKind> DataView<'a, K> {
         let mut low = first;
         let mut high = first;
         let mut last = first.code();
+        // by its place, since the bytes there may be no point's
         for place in 1..count {
             let point = point_at::<K>(bytes, place)?;
             let code = point.code();
@@ -98,6 +99,7 @@ impl<'a, K: PointKind> DataView<'a, K> {
             return false;
         }
         let sought = p.code();
+        // by its place, since the bytes there may be no point's
         for place in 0..count {
             let Some(point) = point_at::<K>(bytes, place) else {
                 return false;
@@ -130,6 +132,7 @@ pub(crate) fn data_fields<K: PointKind>(bytes: &[u8; 64]) -> bool
     if count < 1 || count > K::CAPACITY {
         return false;
     }
+    // by its place, since the bytes there may be no point's
     for place in 0..count {
         let Some(_point) = point_at::<K>(bytes, place) else {
             return false;

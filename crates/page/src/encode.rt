@@ -51,6 +51,7 @@ pub fn data_page<K: PointKind>(points: &[K]) -> [u8; 64]
     ensures { result ≡ encode K.PointKind.kind (data_view (map K.PointKind.kind.coords points.now)) }
 {
     let mut page = [0; 64];
+    // a cast, as a page has room for 15 points at most
     put_bytes(&mut page, 0, &[K::DATA_PAGE, points.len() as u8]);
     for (i, point) in points.iter().enumerate() {
         put_point(&mut page, 2 + i * K::SIZE, point);
@@ -58,7 +59,7 @@ pub fn data_page<K: PointKind>(points: &[K]) -> [u8; 64]
     page
 }
 
-// Some bytes behind those before `at`.
+// Some bytes behind those before `at`. Promised in the words of a page that is written from its front on, which no function for any slice has.
 fn put_bytes(page: &mut [u8; 64], at: usize, bytes: &[u8])
     requires { at + length bytes.now ≤ 64 }
     ensures { Adds page.old at bytes.now page.new }

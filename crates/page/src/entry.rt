@@ -32,6 +32,7 @@ pub struct EntryView<'a, K: PointKind> {
     ghost long: { length bytes.now ≡ entry_length K.PointKind.kind },
 }
 
+// By hand, as no derive goes over a ghost field of a type with parameters.
 impl<'a, K: PointKind> Clone for EntryView<'a, K> {
     ghost is_clone = { λ view copy. copy ≡ view };
 

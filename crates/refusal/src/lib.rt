@@ -30,7 +30,7 @@ pub enum Refusal {
 }
 
 impl Refusal {
-    // The number of a refusal.
+    // The number of a refusal. Each case is named beside its number, and not numbered by its place among the others.
     pub fn number(self) -> u8
         ensures { result ≡ number self }
     {

@@ -31,6 +31,7 @@ impl<K: PointKind> Gather<K> for Counter {
     }
 
     fn unread(&mut self, count: u32, places: usize) -> Result<bool, Refusal> {
+        // no `From` makes a `usize` of a `u32`
         let total = self.total.checked_add(count as usize);
         self.total = total.ok_or(Refusal::Damaged)?;
         Ok(true)

@@ -34,6 +34,7 @@ impl<K: PointKind> Gather<K> for Lister {
     }
 
     fn unread(&mut self, count: u32, places: usize) -> Result<bool, Refusal> {
+        // no `From` makes a `usize` of a `u32`
         let seen = self.seen.checked_add(count as usize);
         let seen = seen.ok_or(Refusal::Damaged)?;
         if seen > self.skip && self.written < places {

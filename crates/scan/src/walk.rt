@@ -20,7 +20,7 @@ use page::tree_page::Node;
 use refusal::Refusal;
 use store::page_store::PageStore;
 
-// The points of a data page that lie in the window.
+// The points of a data page that lie in the window. What is gathered and the caller's buffer are two loans here and below: one struct of both would only be taken apart again in each clause.
 fn gather_page<K: PointKind, G: Gather<K>>(
     bytes: &[u8; 64],
     window: &WholeWindow<K>,
@@ -34,6 +34,7 @@ fn gather_page<K: PointKind, G: Gather<K>>(
     ensures same { G.Gather.passes gather.new ≡ G.Gather.passes gather.old }
 {
     let view = DataView::<K>::over(bytes);
+    // by its place, since a place of a damaged page may have no point
     for i in 0..view.count() {
         let p = view.point(i).ok_or(Refusal::Damaged)?;
         if window.corners.holds(&p) {

@@ -43,6 +43,7 @@ fn gather(buf: &mut [u8], even: &[u8], odd: &[u8])
     requires { (length buf.old ≡ 64) × ((length even.now ≡ 32) × (length odd.now ≡ 32)) }
     ensures gives { buf.new ≡ weave even.now odd.now }
 {
+    // by index: tried as a zip of both halves with `enumerate`, and as `array::from_fn`; the proof did not close
     for i in 0..HALF_BYTES {
         buf[2 * i] = even[i];
         buf[2 * i + 1] = odd[i];
@@ -54,6 +55,7 @@ fn scatter(buf: &[u8], even: &mut [u8], odd: &mut [u8])
     requires { (length buf.now ≡ 64) × ((length even.old ≡ 32) × (length odd.old ≡ 32)) }
     ensures gives { weave even.new odd.new ≡ buf.now }
 {
+    // by index: tried as `chunks_exact` with `enumerate`; the proof did not close
     for i in 0..HALF_BYTES {
         even[i] = buf[2 * i];
         odd[i] = buf[2 * i + 1];
