@@ -13,8 +13,8 @@ depth-depth-requires g c =
     let s = g.met.K.PointKind.sound in
     let xs = listed c.args.points.now in
     record {
-      low_on = low_corner_on k s _ xs c.requires.some c.requires.on c.entry-whole.ensures.low;
-      high_on = high_corner_on k s _ xs c.requires.some c.requires.on c.entry-whole.ensures.high;
+      low_on = low_corner_on k s _ xs c.requires.some c.args.points.now.on c.entry-whole.ensures.low;
+      high_on = high_corner_on k s _ xs c.requires.some c.args.points.now.on c.entry-whole.ensures.high;
     }
 
 pub half-low-requires : goal.half-low-requires
@@ -22,23 +22,23 @@ half-low-requires g c =
     let k = g.K.PointKind.kind in
     let s = g.met.K.PointKind.sound in
     let xs = listed c.args.points.now in
-    let d = depth_of k s _ _ _ xs c.requires.some c.requires.on c.entry-whole.ensures.low c.entry-whole.ensures.high c.depth-depth.ensures.set in
-    record { all_on = c.requires.on; shallow = (halves_of k s _ xs c.requires.mixed c.requires.few d).short }
+    let d = depth_of k s _ _ _ xs c.requires.some c.args.points.now.on c.entry-whole.ensures.low c.entry-whole.ensures.high c.depth-depth.ensures.set in
+    record { shallow = (halves_of k s _ xs c.requires.mixed c.requires.few d).short }
 
 pub half-high-requires : goal.half-high-requires
 half-high-requires g c =
     let k = g.K.PointKind.kind in
     let s = g.met.K.PointKind.sound in
     let xs = listed c.args.points.now in
-    let d = depth_of k s _ _ _ xs c.requires.some c.requires.on c.entry-whole.ensures.low c.entry-whole.ensures.high c.depth-depth.ensures.set in
-    record { all_on = c.requires.on; shallow = (halves_of k s _ xs c.requires.mixed c.requires.few d).short }
+    let d = depth_of k s _ _ _ xs c.requires.some c.args.points.now.on c.entry-whole.ensures.low c.entry-whole.ensures.high c.depth-depth.ensures.set in
+    record { shallow = (halves_of k s _ xs c.requires.mixed c.requires.few d).short }
 
 pub page-requires : goal.page-requires
 page-requires g c =
     let k = g.K.PointKind.kind in
     let s = g.met.K.PointKind.sound in
     let xs = listed c.args.points.now in
-    let d = depth_of k s _ _ _ xs c.requires.some c.requires.on c.entry-whole.ensures.low c.entry-whole.ensures.high c.depth-depth.ensures.set in
+    let d = depth_of k s _ _ _ xs c.requires.some c.args.points.now.on c.entry-whole.ensures.low c.entry-whole.ensures.high c.depth-depth.ensures.set in
     subst (λ ys. length ys ≤ k.capacity) (sym c.half-low.ensures) (halves_of k s _ xs c.requires.mixed c.requires.few d).low_few
 
 pub page-requires-2 : goal.page-requires-2
@@ -46,7 +46,7 @@ page-requires-2 g c =
     let k = g.K.PointKind.kind in
     let s = g.met.K.PointKind.sound in
     let xs = listed c.args.points.now in
-    let d = depth_of k s _ _ _ xs c.requires.some c.requires.on c.entry-whole.ensures.low c.entry-whole.ensures.high c.depth-depth.ensures.set in
+    let d = depth_of k s _ _ _ xs c.requires.some c.args.points.now.on c.entry-whole.ensures.low c.entry-whole.ensures.high c.depth-depth.ensures.set in
     subst (λ ys. length ys ≤ k.capacity) (sym c.half-high.ensures) (halves_of k s _ xs c.requires.mixed c.requires.few d).high_few
 
 pub entry-requires : goal.entry-requires
@@ -54,7 +54,7 @@ entry-requires g c =
     let k = g.K.PointKind.kind in
     let s = g.met.K.PointKind.sound in
     let xs = listed c.args.points.now in
-    let d = depth_of k s _ _ _ xs c.requires.some c.requires.on c.entry-whole.ensures.low c.entry-whole.ensures.high c.depth-depth.ensures.set in
+    let d = depth_of k s _ _ _ xs c.requires.some c.args.points.now.on c.entry-whole.ensures.low c.entry-whole.ensures.high c.depth-depth.ensures.set in
     subst (λ ys. 1 ≤ length ys) (sym c.half-low.ensures) (halves_of k s _ xs c.requires.mixed c.requires.few d).low_some
 
 pub entry-requires-2 : goal.entry-requires-2
@@ -62,7 +62,7 @@ entry-requires-2 g c =
     let k = g.K.PointKind.kind in
     let s = g.met.K.PointKind.sound in
     let xs = listed c.args.points.now in
-    let d = depth_of k s _ _ _ xs c.requires.some c.requires.on c.entry-whole.ensures.low c.entry-whole.ensures.high c.depth-depth.ensures.set in
+    let d = depth_of k s _ _ _ xs c.requires.some c.args.points.now.on c.entry-whole.ensures.low c.entry-whole.ensures.high c.depth-depth.ensures.set in
     subst (λ ys. 1 ≤ length ys) (sym c.half-high.ensures) (halves_of k s _ xs c.requires.mixed c.requires.few d).high_some
 
 pub fork_page-fork-requires : goal.fork_page-fork-requires
@@ -70,7 +70,7 @@ fork_page-fork-requires g c =
     let k = g.K.PointKind.kind in
     let s = g.met.K.PointKind.sound in
     let xs = listed c.args.points.now in
-    let d = depth_of k s _ _ _ xs c.requires.some c.requires.on c.entry-whole.ensures.low c.entry-whole.ensures.high c.depth-depth.ensures.set in
+    let d = depth_of k s _ _ _ xs c.requires.some c.args.points.now.on c.entry-whole.ensures.low c.entry-whole.ensures.high c.depth-depth.ensures.set in
     (halves_of k s _ xs c.requires.mixed c.requires.few d).short
 
 pub returns : goal.returns
@@ -91,7 +91,7 @@ returns g c =
     let two = written_as c.put_page-2.ensures one c.from-2.ensures (c.page-2.ensures ∙ ap data_bytes c.half-high.ensures) in
     record {
       depth = n;
-      deep = depth_of k s _ _ _ xs c.requires.some c.requires.on e.low e.high c.depth-depth.ensures.set;
+      deep = depth_of k s _ _ _ xs c.requires.some c.args.points.now.on e.low e.high c.depth-depth.ensures.set;
       entry_is = entry_of k s c.entry-whole.result x.fork xs xs refl e.page e.count e.low e.high;
       used = refl;
       written = written_as c.put_page-3.ensures two c.from-3.ensures (c.fork_page-fork.ensures ∙ ap₂ (λ (a b : Summary). encode k (directory_view n a b)) el eh);

@@ -7,8 +7,8 @@ use Rattle.hand.proofs.points.Hand.with.Goals as goal
 pub first-hand-requires : goal.first-hand-requires
 first-hand-requires g c = let n = count_is c.args.self.now in let w = c.place-place.ensures.within in omega arith
 
-pub push-requires : goal.push-requires
-push-requires g c =
+pub push-requires-clause-room : goal.push-requires-clause-room
+push-requires-clause-room g c =
     let ps = listed c.args.self.now in
     let b = ap length c.first-hand.ensures ∙ length-take-le c.place-place.result ps c.place-place.ensures.within in
     let m = g.met.K.PointKind.sound.small in
