@@ -235,6 +235,7 @@ impl<K: PointKind> Hand<K> {
         ensures splits { with_point (code_of K.PointKind.kind) p.now (listed self.now) ≡ take result (listed self.now) ++ (p.now ∷ drop result (listed self.now)) }
     {
         let code = p.code();
+        // by place, since the place is the answer
         for i in 0..self.count {
             let point = self.point(i);
             if code < point.code() {

@@ -8,7 +8,8 @@ use Rattle.access.proofs.Writes.{written_as}
 use Rattle.hand.specs.Hands.{listed}
 use Rattle.put.specs.Spares.{spares}
 use Rattle.put.specs.Growing.{Split, Mixed}
-use Rattle.put.proofs.Splits.{entry_of, with_mixed, split_size}
+use Rattle.hand.proofs.Entries.{entry_of}
+use Rattle.put.proofs.Splits.{with_mixed, split_size}
 use Rattle.put.proofs.Here.{here_live, here_room, here_full, here_split}
 use Rattle.put.proofs.insert.put_here.Goals as goal
 
@@ -33,7 +34,7 @@ returns-then-count-CAPACITY-clause-lawful g c ps above q w =
     let e = c.entry.ensures in
     let xs = listed c.args.points.now in
     let lt : length xs < k.capacity = omega (arith, c.count.ensures, c.CAPACITY.ensures, g.met.K.PointKind.constants.1, c.if-count-CAPACITY.true) in
-    here_room k s _ ps _ c.args.spare above q _ c.args.p.now w (sym c.holds.ensures ∙ c.if-holds.false) _ _ lt (entry_of k s c.entry.result c.args.at.now.page _ _ c.with-all.ensures e.page e.count e.low e.high) refl
+    here_room k s _ ps _ c.args.spare above q _ c.args.p.now w (sym c.holds.ensures ∙ c.if-holds.false) _ _ lt (entry_of k c.entry.result c.args.at.now.page _ _ c.with-all.ensures e.page e.count e.low e.high) refl
     (written_as c.put_page.ensures refl c.from.ensures (c.page.ensures ∙ ap (λ ys. encode k (data_view (map k.coords ys))) c.with-all.ensures))
 
 -- a full page, and no pages at hand
