@@ -2,7 +2,6 @@
 use Rattle.std.proofs.Common.{◌≡◌, ℕ, ◌+◌, ◌<◌, ◌≤◌, false, List, [], ◌∷◌, map, length, ℤ, sym, refl, ap, ◌∙◌, subst, ⊎_elim, arith}
 use lib.Arith.{lt_of_le-ne}
 use Rattle.std.specs.List.{AllByRecursion}
-use Rattle.std.proofs.lemmas.List.{length-set}
 use Rattle.std.proofs.lemmas.Bool.{eq-eqb, ne_eqb, cond-true, cond-false}
 use Rattle.std.proofs.ByRecursion.{All-weaker, All-map}
 use Rattle.zorder.specs.Code.{OnAxes, first, bit_at}
@@ -11,12 +10,9 @@ use Rattle.zorder.specs.Halves.{half}
 use Rattle.kinds.specs.Kind.{Kind, Sound, On, wide, code_of, low_corner, high_corner}
 use Rattle.tree.specs.Sets.{live, with_point}
 use Rattle.tree.specs.Tree.{Depth}
-use Rattle.tree.specs.Lawful.{Card}
 use Rattle.tree.proofs.Halves.{all_unmap, absent_from, all_with_out, half_cases, bit_cases, not_one, not_zero, first_whole}
 use Rattle.tree.proofs.Standings.{corners_on}
-use Rattle.put.specs.declared.insert.Grown.{Grown}
-use Rattle.put.specs.declared.spare.Spare.{Spare}
-use Rattle.put.specs.Growing.{Mixed, Split}
+use Rattle.put.specs.Growing.{Mixed}
 
 module _ {P : Type 0} (code : P → ℕ) (w n : ℕ) where
   -- each point stands in one half
@@ -95,7 +91,3 @@ module _ {P : Type 0} (k : Kind P) (s : Sound k) where
 
   pub high_corner_on : (z : List ℤ) (xs : List P) → 1 ≤ length xs → AllByRecursion (On k) xs → z ≡ high_corner k xs → OnAxes k.axes z
   high_corner_on z xs some on e = subst (OnAxes k.axes) (sym e) (corners_on k s xs some on).1
-
-  -- a split keeps the number of pages
-  pub split_size : (before : Card) (xs : List P) (q : ℕ) (x : Spare) (r : Grown P) (after : Card) → Split k before xs q x r after → length after ≡ length before
-  split_size before xs q x r after sp = ap length sp.written ∙ length-set _ x.fork _ ∙ length-set _ x.leaf _ ∙ length-set before q _

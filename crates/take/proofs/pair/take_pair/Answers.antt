@@ -7,7 +7,6 @@ use Rattle.access.proofs.Writes.{written_as}
 use Rattle.access.specs.Reached.{chosen}
 use Rattle.take.specs.declared.taken.Taken.TheVariants.{Left}
 use Rattle.take.specs.Shrinking.{Shrunk}
-use Rattle.take.proofs.DataPages.{few_left}
 use Rattle.take.proofs.Chosen.{chosen_length}
 use Rattle.take.proofs.Ups.{own_told, other_told, live_there, both_fit, pair_gone, pair_merged}
 use Rattle.take.proofs.pair.take_pair.Goals as goal
@@ -62,15 +61,6 @@ returns-then-count-eq0-clause-lawful g c ps above q l h d few =
     subst (Shrunk k card ps p _ (Left other _)) (sym keeps)
     (pair_gone k s card ps e above x bit p q l h d few own other sides.own sides.other (ap (live (code_of k) p) (sym is) ∙ sym c.holds.ensures ∙ c.if-not-holds.false)
     (ap length (ap (without_point (code_of k) p) (sym is) ∙ sym c.without-rest.ensures) ∙ sym c.count.ensures ∙ c.if-count-eq0.true))
-
-pub overflow_add-count : goal.overflow_add-count
-overflow_add-count g c =
-    let a = few_left (code_of g.K.PointKind.kind) c.args.p.now (listed c.in_ok-points.points) in
-    let b = ap length c.without-rest.ensures in
-    let m = c.in_ok-points.ensures.sane.2 in
-    let n = c.in_ok-beside.ensures.sane.2 in
-    let small = g.met.K.PointKind.sound.small in
-    record { fits = omega (arith, c.count-2.ensures, c.count-3.ensures) }
 
 -- more points than one page has room for
 pub returns-then-count-CAPACITY-clause-lawful : goal.returns-then-count-CAPACITY-clause-lawful

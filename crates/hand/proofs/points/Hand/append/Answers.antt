@@ -1,10 +1,7 @@
 use Rattle.std.proofs.Common.{◌++◌, length, drop, sym, ap, ◌∙◌, arith, length-append}
 use Rattle.hand.specs.Hands.{listed, left}
-use Rattle.hand.proofs.Steps.{behind, whole}
+use Rattle.hand.proofs.Steps.{behind}
 use Rattle.hand.proofs.points.Hand.append.Goals as goal
-
-pub loop-point-init : goal.loop-point-init
-loop-point-init g c = ap (λ xs. listed c.args.self.now ++ xs) (ap left c.into_iter-point-iterator.ensures.into_iter_gives ∙ c.iter_from-point-items.ensures)
 
 pub push-requires-clause-room : goal.push-requires-clause-room
 push-requires-clause-room g c =
@@ -16,6 +13,3 @@ push-requires-clause-room g c =
 
 pub loop-point-preserved : goal.loop-point-preserved
 loop-point-preserved g c = behind (listed c.loop-point.self) _ _ (left c.next.new.self) c.in-Some.point (ap (λ xs. listed c.loop-point.self ++ xs) (sym c.in-Some.ensures.steps) ∙ c.loop-point.invariant) c.push.ensures
-
-pub returns : goal.returns
-returns g c = whole (listed c.loop-point.self) _ _ c.in-None.ensures.steps.0 c.loop-point.invariant

@@ -4,7 +4,7 @@ use Rattle.page.specs.Form.{Point, data_view}
 use Rattle.page.specs.Fields.{Reads}
 use Rattle.page.specs.Checks.{IsData}
 use Rattle.hand.specs.Hands.{listed}
-use Rattle.hand.proofs.Reading.{never_refused, more_read, read_count, all_read, same_points, some_points, point_on}
+use Rattle.hand.proofs.Reading.{never_refused, read_count, all_read, same_points, some_points, point_on}
 use Rattle.hand.proofs.points.Hand.of_page.Goals as goal
 
 -- a data page is read
@@ -35,14 +35,6 @@ push-requires g c =
     let m = g.met.K.PointKind.sound.small in
     let b = r.fields.fit in
     record { on = point_on k bs xs c.loop-i.i c.in_ok-point.point r p.0 p.1; room = omega (arith, c.loop-i-test.true) }
-
-pub loop-i-preserved : goal.loop-i-preserved
-loop-i-preserved g c xs r =
-    let k = g.K.PointKind.kind in
-    let i = c.loop-i.invariant xs r in
-    let p = c.in_ok-point.ensures xs (subst (λ x. Reads k x (data_view xs)) (sym c.in-Ok.ensures.1.0) r) in
-    let lt = p.0 in
-    (more_read k g.met.K.PointKind.sound c.args.bytes.now (listed c.loop-i.hand) (listed c.push.new.self) c.in_ok-point.point xs c.loop-i.i i.0 lt p.1 c.push.ensures, omega arith)
 
 pub returns : goal.returns
 returns g c =
