@@ -1,4 +1,4 @@
-// Places for values of a type parameter. Generic code does not know that an array of such values fits into memory, so places are fields, four by four.
+// Places for values of a type parameter. Generic code does not know that an array of such values fits into memory, and every caller of a put or a take would have to show it, so places are fields, four by four.
 ghost use Rattle.std.specs.Prelude.{◌≡◌, ◌<◌, slice_index_or, slice_set};
 ghost use Rattle.hand.specs.Places.{four};
 

@@ -1,5 +1,5 @@
 -- The card after a put.
-use Rattle.std.proofs.Common.{◌≡◌, ℕ, suc, ◌+◌, ◌*◌, ◌^◌, ◌<◌, ◌≤◌, true, false, cond, ◌&&◌, ltb, leb, List, [], ◌∷◌, ◌++◌, length, set, Some, None, Ok, Err, Option, Result, sym, refl, ap, ◌∙◌, subst, inr, mul-le-mul_right, arith}
+use Rattle.std.proofs.Common.{◌≡◌, ℕ, suc, ◌+◌, ◌*◌, ◌^◌, ◌<◌, ◌≤◌, true, false, cond, ◌&&◌, ltb, leb, List, [], ◌∷◌, ◌++◌, length, set, Some, None, Ok, Err, Option, Result, sym, refl, ap, ◌∙◌, subst, mul-le-mul_right, arith}
 use Rattle.std.specs.List.{ContainsAt as Has}
 use Rattle.std.proofs.lemmas.List.{get_or-set_same, get_or-set_other}
 use Rattle.refusal.specs.declared.Refusal.{Refusal}
@@ -22,8 +22,8 @@ use Rattle.access.proofs.Reaching.{root_reached}
 use Rattle.put.specs.declared.insert.Grown.{Grown}
 use Rattle.put.specs.declared.spare.Spare.{Spare}
 use Rattle.put.specs.Spares.{spares, SpareOf, first_after, free_after, HeadAfter}
-use Rattle.put.specs.Growing.{Growing, Uses, PutEnd, taken, full, grew, AnyEnd}
-use Rattle.put.specs.Putting.{PutStep, PutAny}
+use Rattle.put.specs.Growing.{Growing, Uses, PutEnd, taken, full, grew}
+use Rattle.put.specs.Putting.{PutStep}
 use Rattle.put.proofs.Chains.{Link}
 
 -- ---- the chain that is left
@@ -209,10 +209,6 @@ pub step_moved : {P : Type 0} (k : Kind P) (now before : Card) (set' : List P) (
     → (w : Lawful k before set') → front w.chain ≡ first → length w.chain ≡ free → root_entry k w.root ≡ root → PutStep k before set' w p r after
 step_moved k now before set' p first free root r after same f =
     subst (λ (x : Card). (w : Lawful k x set') → front w.chain ≡ first → length w.chain ≡ free → root_entry k w.root ≡ root → PutStep k x set' w p r after) same f
-
-pub any_put : {P : Type 0} (k : Kind P) (p : P) (now before after : Card) (r : Result Unit Refusal) → On k p → now ≡ before → AnyEnd now r after → PutAny k p before after r
-any_put k p now before after (Ok u) on same e = (on, e ∙ ap length same)
-any_put k p now before after (Err x) on same e = (e.0 ∙ same, inr (on, e.1))
 
 -- the head that is written
 pub head_bytes_are : {P : Type 0} (k : Kind P) (head r : Head P) (v : Grown P) → HeadAfter head v r

@@ -2,25 +2,17 @@
 use Rattle.std.proofs.Common.{◌≡◌, ℕ, ◌+◌, ◌<◌, ◌≤◌, false, List, [], ◌∷◌, map, length, ℤ, sym, refl, ap, ◌∙◌, subst, ⊎_elim, arith}
 use lib.Arith.{lt_of_le-ne}
 use Rattle.std.specs.List.{AllByRecursion}
-use Rattle.std.proofs.lemmas.List.{length-set}
 use Rattle.std.proofs.lemmas.Bool.{eq-eqb, ne_eqb, cond-true, cond-false}
 use Rattle.std.proofs.ByRecursion.{All-weaker, All-map}
 use Rattle.zorder.specs.Code.{OnAxes, first, bit_at}
 use Rattle.zorder.specs.Sharing.{Common}
 use Rattle.zorder.specs.Halves.{half}
 use Rattle.kinds.specs.Kind.{Kind, Sound, On, wide, code_of, low_corner, high_corner}
-use Rattle.page.specs.declared.entry.Entry.{Entry}
-use Rattle.page.specs.Checks.{summary}
 use Rattle.tree.specs.Sets.{live, with_point}
 use Rattle.tree.specs.Tree.{Depth}
-use Rattle.tree.specs.Laid.{data_at}
-use Rattle.tree.specs.Lawful.{Card, entry}
 use Rattle.tree.proofs.Halves.{all_unmap, absent_from, all_with_out, half_cases, bit_cases, not_one, not_zero, first_whole}
 use Rattle.tree.proofs.Standings.{corners_on}
-use Rattle.put.specs.declared.insert.Grown.{Grown}
-use Rattle.put.specs.declared.spare.Spare.{Spare}
-use Rattle.put.specs.Growing.{Mixed, Split}
-use Rattle.put.proofs.Widening.{same_summary}
+use Rattle.put.specs.Growing.{Mixed}
 
 module _ {P : Type 0} (code : P → ℕ) (w n : ℕ) where
   -- each point stands in one half
@@ -66,7 +58,7 @@ module _ {P : Type 0} (k : Kind P) (s : Sound k) where
       out.0 (r.0 ∙ sym r.1.0)
 
   -- the depth of points from their corners
-  pub depth_of : (n : ℕ) (low high : List ℤ) (xs : List P) → 1 ≤ length xs → AllByRecursion (On k) xs → low ≡ low_corner k xs → high ≡ high_corner k xs
+  depth_of : (n : ℕ) (low high : List ℤ) (xs : List P) → 1 ≤ length xs → AllByRecursion (On k) xs → low ≡ low_corner k xs → high ≡ high_corner k xs
       → ((p : P) (ps : List P) → AllByRecursion (On k) (p ∷ ps) → low ≡ low_corner k (p ∷ ps) → high ≡ high_corner k (p ∷ ps) → Common (wide k) n (code_of k p) (map (code_of k) ps)) → Depth (code_of k) (wide k) n xs
   depth_of n low high [] some on l h f = absurd (omega arith)
   depth_of n low high (x ∷ xs) some on l h f = f x xs on l h
@@ -80,7 +72,7 @@ module _ {P : Type 0} (k : Kind P) (s : Sound k) where
     pub low_few : length (half (code_of k) (wide k) n 0 xs) ≤ k.capacity
     pub high_few : length (half (code_of k) (wide k) n 1 xs) ≤ k.capacity
 
-  pub halves_of : (n : ℕ) (xs : List P) → Mixed k xs → length xs ≤ k.capacity + 1 → Depth (code_of k) (wide k) n xs → HalvesOf n xs
+  halves_of : (n : ℕ) (xs : List P) → Mixed k xs → length xs ≤ k.capacity + 1 → Depth (code_of k) (wide k) n xs → HalvesOf n xs
   halves_of n xs mixed few d =
       let lt = mixed_short (code_of k) (wide k) n xs mixed d in
       let b = both_halves (code_of k) (wide k) n xs lt d in
@@ -89,16 +81,13 @@ module _ {P : Type 0} (k : Kind P) (s : Sound k) where
       let sum = half_sum (code_of k) (wide k) n xs in
       record { deep = d; short = lt; low_some = l; high_some = h; low_few = omega arith; high_few = omega arith }
 
-  -- an entry with these fields
-  pub entry_of : (e : Entry P) (q : ℕ) (xs ys : List P) → xs ≡ ys → e.page ≡ q → e.count ≡ length xs → k.coords e.low ≡ low_corner k xs → k.coords e.high ≡ high_corner k xs → summary k e ≡ entry k (data_at q ys)
-  entry_of e q xs ys same page count low high = same_summary (summary k e) (entry k (data_at q ys)) page (count ∙ ap length same) (low ∙ ap (low_corner k) same) (high ∙ ap (high_corner k) same)
+  -- the same, from what is told of the corners and of the depth
+  pub parts_of : (n : ℕ) (low high : List ℤ) (xs : List P) → Mixed k xs → length xs ≤ k.capacity + 1 → 1 ≤ length xs → AllByRecursion (On k) xs → low ≡ low_corner k xs → high ≡ high_corner k xs
+      → ((p : P) (ps : List P) → AllByRecursion (On k) (p ∷ ps) → low ≡ low_corner k (p ∷ ps) → high ≡ high_corner k (p ∷ ps) → Common (wide k) n (code_of k p) (map (code_of k) ps)) → HalvesOf n xs
+  parts_of n low high xs mixed few some on l h f = halves_of n xs mixed few (depth_of n low high xs some on l h f)
 
   pub low_corner_on : (z : List ℤ) (xs : List P) → 1 ≤ length xs → AllByRecursion (On k) xs → z ≡ low_corner k xs → OnAxes k.axes z
   low_corner_on z xs some on e = subst (OnAxes k.axes) (sym e) (corners_on k s xs some on).0
 
   pub high_corner_on : (z : List ℤ) (xs : List P) → 1 ≤ length xs → AllByRecursion (On k) xs → z ≡ high_corner k xs → OnAxes k.axes z
   high_corner_on z xs some on e = subst (OnAxes k.axes) (sym e) (corners_on k s xs some on).1
-
-  -- a split keeps the number of pages
-  pub split_size : (before : Card) (xs : List P) (q : ℕ) (x : Spare) (r : Grown P) (after : Card) → Split k before xs q x r after → length after ≡ length before
-  split_size before xs q x r after sp = ap length sp.written ∙ length-set _ x.fork _ ∙ length-set _ x.leaf _ ∙ length-set before q _

@@ -5,20 +5,12 @@ use Rattle.std.proofs.lemmas.Bool.{cond_both}
 use Rattle.zorder.specs.Sharing.{on_each, corner}
 use Rattle.zorder.proofs.Halving.{corner_first, corner_put, min_assoc, max_assoc, min_comm, max_comm}
 use Rattle.kinds.specs.Kind.{Kind, code_of, low_corner, high_corner}
-use Rattle.page.specs.Form.{Summary}
 use Rattle.tree.specs.Sets.{with_point}
 use Rattle.tree.specs.Laid.{Laid, data_at, number, below_it}
 use Rattle.tree.specs.Lawful.{entry}
 use Rattle.tree.proofs.Halves.{length_with}
+use Rattle.hand.proofs.Entries.{same_summary}
 use Rattle.put.specs.Growing.{widened}
-
--- entries with the same fields
-pub same_summary : (a b : Summary) → a.page ≡ b.page → a.count ≡ b.count → a.low ≡ b.low → a.high ≡ b.high → a ≡ b
-same_summary a b page count low high =
-    ap (λ x. record { page = x; count = a.count; low = a.low; high = a.high }) page ∙
-    ap (λ x. record { page = b.page; count = x; low = a.low; high = a.high }) count ∙
-    ap (λ x. record { page = b.page; count = b.count; low = x; high = a.high }) low ∙
-    ap (λ x. record { page = b.page; count = b.count; low = b.low; high = x }) high
 
 module _ {P : Type 0} (code : P → ℕ) (coords : P → List ℤ) (f : ℤ → ℤ → ℤ) (assoc : (x y z : ℤ) → f (f x y) z ≡ f x (f y z)) (comm : (x y : ℤ) → f x y ≡ f y x) (p : P) where
   corner_with : (c : List ℤ) (qs : List P) → corner f c (map coords (with_point code p qs)) ≡ on_each f (coords p) (corner f c (map coords qs))
@@ -43,7 +35,7 @@ module _ {P : Type 0} (k : Kind P) (p : P) where
 
   points_widened : (q r : ℕ) (ps : List P) → 1 ≤ length ps → widened k q p (entry k (data_at r ps)) ≡ entry k (data_at q (with_point (code_of k) p ps))
   points_widened q r [] some = absurd (omega arith)
-  points_widened q r (x ∷ xs) some = same_summary _ _ refl (let c = length_with (code_of k) p (x ∷ xs) in omega arith) (sym (low_with x xs)) (sym (high_with x xs))
+  points_widened q r (x ∷ xs) some = same_summary refl (let c = length_with (code_of k) p (x ∷ xs) in omega arith) (sym (low_with x xs)) (sym (high_with x xs))
 
   -- the entry of a laid tree, widened by p, is that of the tree with p
   pub widened_entry : (t u : Laid P) → 1 ≤ length (below_it t) → below_it u ≡ with_point (code_of k) p (below_it t) → widened k (number u) p (entry k t) ≡ entry k u

@@ -12,6 +12,7 @@ ghost use Rattle.put.specs.Growing.{widened, card_beside, Mixed, Split, Growing,
 
 use crate::spare::Spare;
 use access::{fork_of, load_node, put_page, sides};
+use hand::lone::{lone_entry, lone_page};
 use hand::points::Hand;
 use kinds::kind::PointKind;
 use kinds::points::{bit as bit_of, depth};
@@ -57,7 +58,6 @@ fn split<K: PointKind, S: PageStore>(
     page: u16,
     spare: Spare,
 ) -> Grown<K>
-    requires on { AllByRecursion (On K.PointKind.kind) (listed points.now) }
     requires few { length (listed points.now) ≤ K.PointKind.kind.capacity + 1 }
     requires some { 1 ≤ length (listed points.now) }
     requires mixed { Mixed K.PointKind.kind (listed points.now) }
@@ -89,7 +89,6 @@ fn put_here<K: PointKind, S: PageStore>(
     spare: Option<Spare>,
 ) -> Result<Grown<K>, Refusal>
     requires on { On K.PointKind.kind p.now }
-    requires all_on { AllByRecursion (On K.PointKind.kind) (listed points.now) }
     requires few { length (listed points.now) ≤ K.PointKind.kind.capacity }
     requires there { at.now.page < length (S.PageStore.pages store.old) }
     requires spare_there { AllByRecursion (λ q. q < length (S.PageStore.pages store.old)) (spares spare) }
@@ -130,9 +129,9 @@ fn put_beside<K: PointKind, S: PageStore>(
     ensures used { result.used ≡ Some spare }
     ensures written { S.PageStore.pages store.new ≡ card_beside K.PointKind.kind (S.PageStore.pages store.old) spare shared p.now (summary K.PointKind.kind at.now) }
 {
-    let alone = Hand::one(*p);
-    let fork = fork_page(shared, bit_of(p, shared), &alone.entry(spare.leaf), at);
-    put_page(store, usize::from(spare.leaf), &alone.page());
+    let alone = lone_entry(spare.leaf, p);
+    let fork = fork_page(shared, bit_of(p, shared), &alone, at);
+    put_page(store, usize::from(spare.leaf), &lone_page(p));
     put_page(store, usize::from(spare.fork), &fork);
     Grown {
         entry: widen(spare.fork, at, p),

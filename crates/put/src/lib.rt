@@ -12,7 +12,7 @@ ghost use Rattle.put.specs.Putting.{PutStep, PutAny};
 use crate::insert::{Grown, insert as insert_point};
 use crate::spare::{next_page, spare_pages};
 use access::{load_head, put_page};
-use hand::points::Hand;
+use hand::lone::{lone_entry, lone_page};
 use kinds::kind::PointKind;
 use page::encode::head_page;
 use page::entry::Entry;
@@ -57,12 +57,11 @@ fn put_first<K: PointKind, S: PageStore>(
         return Err(Refusal::Full);
     }
     let rest = next_page::<K, S>(store, head.first)?;
-    let points = Hand::one(*p);
-    put_page(store, usize::from(head.first), &points.page());
+    put_page(store, usize::from(head.first), &lone_page(p));
     let head = Head {
         first: rest,
         free: head.free - 1,
-        root: Some(points.entry(head.first)),
+        root: Some(lone_entry(head.first, p)),
     };
     put_page(store, 0, &head_page(&head));
     Ok(())

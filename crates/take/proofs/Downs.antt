@@ -1,7 +1,8 @@
 -- From the page that was read to the part of the tree that begins there.
-use Rattle.std.proofs.Common.{◌≡◌, ℕ, ◌<◌, ◌≤◌, false, List, map, length, Some, sym, ap, ◌∙◌, subst, arith}
+use Rattle.std.proofs.Common.{◌≡◌, ℕ, ◌<◌, ◌≤◌, false, List, map, length, Some, sym, ap, ◌∙◌, subst, arith, Result}
 use lib.Bits.{bit_xor}
 use lib.Count.{count_leading_zeros}
+use Rattle.refusal.specs.declared.Refusal.{Refusal}
 use Rattle.zorder.specs.Code.{first, bit_at}
 use Rattle.zorder.proofs.Shared.{agree_zeros, zeros_agree}
 use Rattle.kinds.specs.Kind.{Kind, Sound, On, code_of, wide}
@@ -19,7 +20,8 @@ use Rattle.tree.proofs.Laws.{live_not}
 use Rattle.tree.proofs.Standings.{leaf_inv}
 use Rattle.access.specs.Reached.{Reached}
 use Rattle.access.proofs.Reaching.{reached_points, reached_there, reached_reads, reached_parted, leafed, forked, deep, agrees_if, agrees_not}
-use Rattle.take.specs.Shrinking.{Shrinking, Divided}
+use Rattle.take.specs.declared.taken.Taken.{Taken}
+use Rattle.take.specs.Shrinking.{Shrinking, Divided, TakeEnd}
 
 module _ {P : Type 0} (k : Kind P) (s : Sound k) (card : Card) (ps : List P) (e : Entry P) (above : ℕ) (t : Laid P) (w : Shrinking k card ps (summary k e) above t) where
   -- the page is there
@@ -60,7 +62,7 @@ module _ {P : Type 0} (k : Kind P) (s : Sound k) (card : Card) (ps : List P) (e 
           live_not (code_of k) (wide k) x.depth part.front ps p part.share (subst (λ xs. agrees (code_of k) (wide k) x.depth xs p ≡ false) (reached_points k s card ps (summary k e) above (directory_at f.q x.depth f.l f.h) w') off)
 
       -- else its half goes on
-      pub fork_case : (F : Laid P → Type 0) (bit : ℕ) (p : P) → On k p → On k e.low → (z : ℕ) → z ≡ count_leading_zeros (wide k) (bit_xor (code_of k e.low) (code_of k p)) → x.depth ≤ z → bit_at (wide k) x.depth (code_of k p) ≡ bit
+      fork_case : (F : Laid P → Type 0) (bit : ℕ) (p : P) → On k p → On k e.low → (z : ℕ) → z ≡ count_leading_zeros (wide k) (bit_xor (code_of k e.low) (code_of k p)) → x.depth ≤ z → bit_at (wide k) x.depth (code_of k p) ≡ bit
           → ((q : ℕ) (l h : Laid P) → Divided k card ps e above x bit p q l h → F (directory_at q x.depth l h)) → F t
       fork_case F bit p on low_on z z_is le b next =
           let same = zeros_agree (wide k) _ _ x.depth (code_of_lt k s e.low low_on) (code_of_lt k s p on) (omega arith) in
@@ -73,3 +75,11 @@ module _ {P : Type 0} (k : Kind P) (s : Sound k) (card : Card) (ps : List P) (e 
             shares = agrees_if k s card ps (summary k e) above f.q x.depth f.l f.h w'.reached p same;
             bit_is = b;
           }))
+
+-- A directory page is read, which changes no page: what is told of both halves tells how the take ends.
+pub forked_end : {P : Type 0} (k : Kind P) (s : Sound k) (now card : Card) (same : now ≡ card) (ps : List P) (e : Entry P) (above : ℕ) (t : Laid P) (w : Shrinking k card ps (summary k e) above t) (bs : List ℕ) (is : bs ≡ page card e.page) (x : Fork P) (d : DirectoryRead k bs (Some x))
+    (bit : ℕ) (p : P) → On k p → On k e.low → (z : ℕ) → z ≡ count_leading_zeros (wide k) (bit_xor (code_of k e.low) (code_of k p)) → x.depth ≤ z → bit ≡ bit_at (wide k) x.depth (code_of k p) → (r : Result (Taken P) Refusal) (after : Card)
+    → ((q : ℕ) (l h : Laid P) → Divided k now ps e above x bit p q l h → TakeEnd k now ps p (directory_at q x.depth l h) r after) → TakeEnd k card ps p t r after
+forked_end k s now card same ps e above t w bs is x d bit p on low_on z z_is le b r after f =
+    subst (λ (a : Card). TakeEnd k a ps p t r after) same
+    (fork_case k s now ps e above t (subst (λ (a : Card). Shrinking k a ps (summary k e) above t) (sym same) w) bs (is ∙ ap (λ a. page a e.page) (sym same)) x d (λ u. TakeEnd k now ps p u r after) bit p on low_on z z_is le (sym b) f)

@@ -1,15 +1,16 @@
 // What is done with the points in the hand.
-ghost use Rattle.std.specs.Prelude.{◌≡◌, ◌+◌, ◌<◌, ◌≤◌, List, [], ◌∷◌, ◌++◌, map, length, take, drop, IfSome, slice_index_or};
-ghost use Rattle.std.specs.List.{AllByRecursion};
+ghost use Rattle.std.specs.Prelude.{◌≡◌, ◌+◌, ◌<◌, ◌≤◌, Bool, not, ◌==◌, List, [], ◌∷◌, ◌++◌, map, length, take, drop, filter, IfSome, slice_index_or};
+ghost use Rattle.zorder.specs.Code.{bit_at};
 ghost use Rattle.zorder.specs.Halves.{half as half_of};
 ghost use Rattle.kinds.specs.Kind.{On, wide, code_of, low_corner, high_corner};
 ghost use Rattle.page.specs.Form.{data_view, encode};
 ghost use Rattle.page.specs.Fields.{Reads};
 ghost use Rattle.tree.specs.Sets.{live, with_point, without_point};
-ghost use Rattle.hand.specs.Hands.{listed, HoldsAll};
+ghost use Rattle.hand.specs.Hands.{listed, left, HoldsAll};
 
 use crate::places::Four;
 use crate::points::Hand;
+use crate::points::iter::Points;
 use kinds::kind::PointKind;
 use kinds::points::bit as bit_of;
 use page::data_page::DataView;
@@ -19,26 +20,23 @@ impl<K: PointKind> Hand<K> {
     // The points of a data page; none where the bytes are those of no data page.
     pub fn of_page(bytes: &[u8; 64]) -> Option<Hand<K>>
         ensures tells { (ps : List K) → Reads K.PointKind.kind bytes.now (data_view (map K.PointKind.kind.coords ps)) → HoldsAll ps result }
-        ensures sane { IfSome result (λ h. (1 ≤ length (listed h)) × (length (listed h) ≤ K.PointKind.kind.capacity) × AllByRecursion (On K.PointKind.kind) (listed h)) }
+        ensures sane { IfSome result (λ h. (1 ≤ length (listed h)) × (length (listed h) ≤ K.PointKind.kind.capacity)) }
     {
         let Ok(view) = DataView::<K>::new(0, bytes) else {
             return None;
         };
-        let Some(first) = view.point(0) else {
-            return None;
-        };
+        let first = view.point(0)?;
         let mut hand = Hand::one(first);
         for i in 1..view.count() {
-            let Some(point) = view.point(i) else {
-                return None;
-            };
+            let point = view.point(i)?;
             hand.push(point);
         }
         Some(hand)
     }
 
     // One point.
-    pub fn one(p: K) -> Hand<K>
+    fn one(p: K) -> Hand<K>
+        requires { On K.PointKind.kind p }
         ensures { listed result ≡ p ∷ [] }
     {
         Hand {
@@ -54,15 +52,13 @@ impl<K: PointKind> Hand<K> {
         self.count
     }
 
-    // Whether a point is among them.
+    // Whether a point is among them. All are asked: on a damaged page the codes may not rise, so the search of a page's view by code may miss one.
     pub fn holds(&self, p: &K) -> bool
         requires on { On K.PointKind.kind p.now }
-        requires all_on { AllByRecursion (On K.PointKind.kind) (listed self.now) }
         ensures { result ≡ live (code_of K.PointKind.kind) p.now (listed self.now) }
     {
         let sought = p.code();
-        for i in 0..self.count {
-            let point = self.point(i);
+        for point in self.iter() {
             if sought == point.code() {
                 return true;
             }
@@ -73,7 +69,6 @@ impl<K: PointKind> Hand<K> {
     // The points with one more, before the first of a higher code.
     pub fn with(&self, p: &K) -> Hand<K>
         requires on { On K.PointKind.kind p.now }
-        requires all_on { AllByRecursion (On K.PointKind.kind) (listed self.now) }
         requires few { length (listed self.now) ≤ K.PointKind.kind.capacity }
         ensures { listed result ≡ with_point (code_of K.PointKind.kind) p.now (listed self.now) }
     {
@@ -87,34 +82,27 @@ impl<K: PointKind> Hand<K> {
     // The points without one.
     pub fn without(&self, p: &K) -> Hand<K>
         requires on { On K.PointKind.kind p.now }
-        requires all_on { AllByRecursion (On K.PointKind.kind) (listed self.now) }
         ensures { listed result ≡ without_point (code_of K.PointKind.kind) p.now (listed self.now) }
     {
         let gone = p.code();
-        let mut hand = self.first(0);
-        for i in 0..self.count {
-            let point = self.point(i);
-            if gone != point.code() {
-                hand.push(point);
-            }
-        }
-        hand
+        let other = |point: &K| -> bool
+            requires { On K.PointKind.kind point.now }
+            ensures { result ≡ not (gone == code_of K.PointKind.kind point.now) }
+        { gone != point.code() };
+        self.kept(other)
     }
 
     // The points whose code has this bit behind the first `depth`.
     pub fn half(&self, depth: u32, bit: u64) -> Hand<K>
-        requires all_on { AllByRecursion (On K.PointKind.kind) (listed self.now) }
         requires shallow { depth < wide K.PointKind.kind }
         ensures { listed result ≡ half_of (code_of K.PointKind.kind) (wide K.PointKind.kind) depth bit (listed self.now) }
     {
-        let mut hand = self.first(0);
-        for i in 0..self.count {
-            let point = self.point(i);
-            if bit_of(&point, depth) == bit {
-                hand.push(point);
-            }
-        }
-        hand
+        let within = |point: &K| -> bool
+            requires on { On K.PointKind.kind point.now }
+            requires shallow { depth < wide K.PointKind.kind }
+            ensures { result ≡ (bit_at (wide K.PointKind.kind) depth (code_of K.PointKind.kind point.now) == bit) }
+        { bit_of(point, depth) == bit };
+        self.kept(within)
     }
 
     // These points, and behind them those of another hand.
@@ -127,7 +115,7 @@ impl<K: PointKind> Hand<K> {
         hand
     }
 
-    // The entry of a data page with these points.
+    // The entry of a data page with these points. They lie in fields, so what takes a slice of points cannot tell their corners.
     pub fn entry(&self, page: u16) -> Entry<K>
         requires { 1 ≤ length (listed self.now) }
         ensures page { result.page ≡ page }
@@ -138,8 +126,7 @@ impl<K: PointKind> Hand<K> {
         let first = self.point(0);
         let mut low = first;
         let mut high = first;
-        for i in 1..self.count {
-            let point = self.point(i);
+        for point in self.iter_from(1) {
             low = low.lower(&point);
             high = high.upper(&point);
         }
@@ -151,7 +138,7 @@ impl<K: PointKind> Hand<K> {
         }
     }
 
-    // A data page with these points.
+    // A data page with these points. They lie in fields, so the encoder, which takes a slice of points, cannot write them.
     pub fn page(&self) -> [u8; 64]
         requires { length (listed self.now) ≤ K.PointKind.kind.capacity }
         ensures { result ≡ encode K.PointKind.kind (data_view (map K.PointKind.kind.coords (listed self.now))) }
@@ -159,20 +146,52 @@ impl<K: PointKind> Hand<K> {
         let mut page = [0; 64];
         page[0] = K::DATA_PAGE;
         page[1] = self.count as u8;
-        let size = K::SIZE;
-        for i in 0..self.count {
-            let at = 2 + i * size;
-            self.point(i).write(&mut page[at..at + size]);
+        let mut at = 2;
+        for point in self.iter() {
+            let end = at + K::SIZE;
+            point.write(&mut page[at..end]);
+            at = end;
         }
         page
     }
 
     // The point at a place.
-    fn point(&self, place: usize) -> K
+    pub(crate) fn point(&self, place: usize) -> K
         requires { place < self.now.count }
         ensures { result ≡ slice_index_or (listed self.now) place result }
     {
         self.points.at(place / 4).at(place % 4)
+    }
+
+    // The points one after another.
+    fn iter(&self) -> Points<'_, K>
+        ensures { left result ≡ listed self.now }
+    {
+        self.iter_from(0)
+    }
+
+    // The points from a place on, one after another.
+    fn iter_from(&self, place: usize) -> Points<'_, K>
+        ensures { left result ≡ drop place (listed self.now) }
+    {
+        Points {
+            hand: self,
+            next: place,
+        }
+    }
+
+    // The points for which a test holds.
+    fn kept<F: Fn(&K) -> bool>(&self, test: F) -> Hand<K>
+        requires { (x : _) → On K.PointKind.kind x.now → F.pre test x }
+        ensures { (keeps : K → Bool) → ((x : _) (r : Bool) → On K.PointKind.kind x.now → F.post test x r → r ≡ keeps x.now) → listed result ≡ filter keeps (listed self.now) }
+    {
+        let mut hand = self.first(0);
+        for point in self.iter() {
+            if test(&point) {
+                hand.push(point);
+            }
+        }
+        hand
     }
 
     // The first few points.
@@ -188,7 +207,8 @@ impl<K: PointKind> Hand<K> {
 
     // One more point, behind the others.
     fn push(&mut self, p: K)
-        requires { length (listed self.old) < 16 }
+        requires on { On K.PointKind.kind p }
+        requires room { length (listed self.old) < 16 }
         ensures { listed self.new ≡ listed self.old ++ p ∷ [] }
     {
         let place = self.count;
@@ -203,19 +223,19 @@ impl<K: PointKind> Hand<K> {
         requires { length (listed self.old) + length (drop from (listed other.now)) ≤ 16 }
         ensures { listed self.new ≡ listed self.old ++ drop from (listed other.now) }
     {
-        for i in from..other.count {
-            self.push(other.point(i));
+        for point in other.iter_from(from) {
+            self.push(point);
         }
     }
 
     // How many points have no higher code than p, from the first on.
     fn place(&self, p: &K) -> usize
         requires on { On K.PointKind.kind p.now }
-        requires all_on { AllByRecursion (On K.PointKind.kind) (listed self.now) }
         ensures within { result ≤ length (listed self.now) }
         ensures splits { with_point (code_of K.PointKind.kind) p.now (listed self.now) ≡ take result (listed self.now) ++ (p.now ∷ drop result (listed self.now)) }
     {
         let code = p.code();
+        // by place, since the place is the answer
         for i in 0..self.count {
             let point = self.point(i);
             if code < point.code() {

@@ -1,9 +1,7 @@
-use Rattle.std.proofs.Common.{[], ◌∷◌, map, length, set, refl, ap, ◌∙◌, arith}
-use Rattle.page.specs.Form.{data_view, encode}
+use Rattle.std.proofs.Common.{length, set, refl, ap, arith}
 use Rattle.access.proofs.Heads.{no_root}
 use Rattle.access.proofs.Writes.{written_as}
 use Rattle.put.proofs.Chains.{first_link, next_is}
-use Rattle.put.proofs.Splits.{entry_of}
 use Rattle.put.proofs.Roots.{chain_some, first_step}
 use Rattle.put.proofs.put_first.Goals as goal
 
@@ -29,11 +27,10 @@ returns-clause-lawful g c set' w f n e =
     let s = g.met.K.PointKind.sound in
     let p = c.args.p.now in
     let first = c.args.head.now.first in
-    let own = entry_of k s c.entry.result first _ (p ∷ []) c.one-points.ensures c.entry.ensures.page c.entry.ensures.count c.entry.ensures.low c.entry.ensures.high in
-    let wrote = written_as c.put_page.ensures c.next_page.ensures.keeps c.from.ensures (c.page.ensures ∙ ap (λ ys. encode k (data_view (map k.coords ys))) c.one-points.ensures) in
+    let wrote = written_as c.put_page.ensures c.next_page.ensures.keeps c.from.ensures c.lone_page.ensures in
     let z = no_root k s _ set' w e in
     let m = chain_some k s _ set' w p c.requires.on z.0 in
     let l = first_link k s _ set' w first m f in
     let i = next_is k s _ _ _ _ l c.in_ok-rest.ensures.gives.1 in
     let j = ap length l.is in
-    first_step k s _ set' w p c.requires.on first _ _ _ _ _ l z.0 z.1 i (omega (arith, n, j)) own wrote (written_as c.put_page-2.ensures refl refl c.head_page.ensures) c.in_ok-rest.ensures.gives.0
+    first_step k s _ set' w p c.requires.on first _ _ _ _ _ l z.0 z.1 i (omega (arith, n, j)) c.lone_entry.ensures wrote (written_as c.put_page-2.ensures refl refl c.head_page.ensures) c.in_ok-rest.ensures.gives.0

@@ -1,14 +1,15 @@
 use Rattle.std.proofs.Common.{◌≡◌, ◌<◌, ◌≤◌, false, map, length, sym, refl, ap, ◌∙◌, subst, arith}
 use Rattle.std.specs.List.{AllByRecursion}
-use Rattle.kinds.specs.Kind.{On, code_of}
+use Rattle.kinds.specs.Kind.{code_of}
 use Rattle.page.specs.Form.{data_view, encode}
-use Rattle.tree.specs.Sets.{live, with_point}
-use Rattle.tree.proofs.Halves.{all_with, length_with}
+use Rattle.tree.specs.Sets.{live}
+use Rattle.tree.proofs.Halves.{length_with}
 use Rattle.access.proofs.Writes.{written_as}
 use Rattle.hand.specs.Hands.{listed}
 use Rattle.put.specs.Spares.{spares}
 use Rattle.put.specs.Growing.{Split, Mixed}
-use Rattle.put.proofs.Splits.{entry_of, with_mixed, split_size}
+use Rattle.hand.proofs.Entries.{entry_of}
+use Rattle.put.proofs.Splits.{with_mixed}
 use Rattle.put.proofs.Here.{here_live, here_room, here_full, here_split}
 use Rattle.put.proofs.insert.put_here.Goals as goal
 
@@ -33,7 +34,7 @@ returns-then-count-CAPACITY-clause-lawful g c ps above q w =
     let e = c.entry.ensures in
     let xs = listed c.args.points.now in
     let lt : length xs < k.capacity = omega (arith, c.count.ensures, c.CAPACITY.ensures, g.met.K.PointKind.constants.1, c.if-count-CAPACITY.true) in
-    here_room k s _ ps _ c.args.spare above q _ c.args.p.now w (sym c.holds.ensures ∙ c.if-holds.false) _ _ lt (entry_of k s c.entry.result c.args.at.now.page _ _ c.with-all.ensures e.page e.count e.low e.high) refl
+    here_room k s _ ps _ c.args.spare above q _ c.args.p.now w (sym c.holds.ensures ∙ c.if-holds.false) _ _ lt (entry_of k c.entry.result c.args.at.now.page _ _ c.with-all.ensures e.page e.count e.low e.high) refl
     (written_as c.put_page.ensures refl c.from.ensures (c.page.ensures ∙ ap (λ ys. encode k (data_view (map k.coords ys))) c.with-all.ensures))
 
 -- a full page, and no pages at hand
@@ -57,7 +58,6 @@ split-requires g c =
     let l = ap length all ∙ length_with (code_of k) p xs in
     let there = subst (λ o. AllByRecursion (λ q. q < length (g.S.PageStore.pages c.args.store.now)) (spares o)) c.in-Some.is c.requires.spare_there in
     record {
-      on = subst (AllByRecursion (On k)) (sym all) (all_with (code_of k) (On k) p xs c.requires.on c.requires.all_on);
       few = omega (arith, l, most);
       some = omega (arith, l);
       mixed = subst (Mixed k) (sym all) (with_mixed k s p xs (omega (arith, is_full, room)) new);
@@ -67,8 +67,8 @@ split-requires g c =
     }
 
 -- a full page is split
-pub returns : goal.returns
-returns g c =
+pub returns-clause-lawful : goal.returns-clause-lawful
+returns-clause-lawful g c ps above q w =
     let k = g.K.PointKind.kind in
     let s = g.met.K.PointKind.sound in
     let p = c.args.p.now in
@@ -78,7 +78,4 @@ returns g c =
     let is_full : k.capacity ≤ length xs = omega (arith, c.count.ensures, c.CAPACITY.ensures, g.met.K.PointKind.constants.1, c.if-count-CAPACITY.false) in
     let there = subst (λ o. AllByRecursion (λ q. q < length card) (spares o)) c.in-Some.is c.requires.spare_there in
     let done = subst (λ ys. Split k card ys c.args.at.now.page c.in-Some.pages c.split.result (g.S.PageStore.pages c.split.new.store)) c.with-all.ensures c.split.ensures in
-    record {
-      lawful = λ ps above q w. here_split k s _ ps _ c.args.spare above q xs p w new is_full c.in-Some.pages c.in-Some.is _ _ done there.0 there.1.0;
-      always = split_size k s card (with_point (code_of k) p xs) c.args.at.now.page c.in-Some.pages c.split.result _ done;
-    }
+    here_split k s _ ps _ c.args.spare above q xs p w new is_full c.in-Some.pages c.in-Some.is _ _ done there.0 there.1.0

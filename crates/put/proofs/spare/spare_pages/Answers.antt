@@ -1,4 +1,4 @@
-use Rattle.std.proofs.Common.{◌<◌, ◌≤◌, length, sym, ◌∙◌, subst, arith}
+use Rattle.std.proofs.Common.{◌≤◌, length, sym, subst, arith}
 use Rattle.page.specs.Form.{free_view}
 use Rattle.page.specs.Fields.{Reads}
 use Rattle.tree.specs.Lawful.{Card, page, front}
@@ -22,19 +22,14 @@ returns-in_err-rest-clause-lawful g c set w f n =
     let m = second_link k s _ set w _ c.in_ok-leaf.leaf two l e in
     absurd (c.in_err-rest.ensures.gives.1 _ (subst (λ (x : Card). Reads k (page x c.in_ok-leaf.leaf) (free_view (front m.rest))) (sym c.next_page.ensures.keeps) m.reads))
 
-pub returns : goal.returns
-returns g c =
+pub returns-clause-lawful : goal.returns-clause-lawful
+returns-clause-lawful g c set w f n =
     let k = g.K.PointKind.kind in
     let s = g.met.K.PointKind.sound in
     let leaf = c.in_ok-leaf.leaf in
-    record {
-      lawful = λ set w f n.
-          let two : 2 ≤ length w.chain = omega (arith, n, c.if-head-lt-PAIR.false) in
-          let l = first_link k s _ set w _ (omega (arith, two)) f in
-          let e = next_is k s _ _ _ _ l c.in_ok-leaf.ensures.gives.1 in
-          let m = second_link k s _ set w _ leaf two l e in
-          let o = next_is k s _ _ _ _ m (subst (λ (x : Card). Reads k (page x leaf) (free_view c.in_ok-rest.rest)) c.next_page.ensures.keeps c.in_ok-rest.ensures.gives.1) in
-          spare_of k s _ set w _ _ _ _ l m n o;
-      always = (c.in_ok-leaf.ensures.gives.0, (subst (λ (x : Card). leaf < length x) c.next_page.ensures.keeps c.in_ok-rest.ensures.gives.0, tt));
-      keeps = c.next_page-2.ensures.keeps ∙ c.next_page.ensures.keeps;
-    }
+    let two : 2 ≤ length w.chain = omega (arith, n, c.if-head-lt-PAIR.false) in
+    let l = first_link k s _ set w _ (omega (arith, two)) f in
+    let e = next_is k s _ _ _ _ l c.in_ok-leaf.ensures.gives.1 in
+    let m = second_link k s _ set w _ leaf two l e in
+    let o = next_is k s _ _ _ _ m (subst (λ (x : Card). Reads k (page x leaf) (free_view c.in_ok-rest.rest)) c.next_page.ensures.keeps c.in_ok-rest.ensures.gives.1) in
+    spare_of k s _ set w _ _ _ _ l m n o

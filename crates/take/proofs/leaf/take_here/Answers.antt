@@ -9,18 +9,14 @@ use Rattle.take.proofs.DataPages.{few_left, leaf_gone, leaf_left}
 use Rattle.take.proofs.leaf.take_here.Goals as goal
 
 -- the last point
-pub returns-then-count-eq0 : goal.returns-then-count-eq0
-returns-then-count-eq0 g c =
+pub returns-then-count-eq0-clause-lawful : goal.returns-then-count-eq0-clause-lawful
+returns-then-count-eq0-clause-lawful g c ps r =
     let k = g.K.PointKind.kind in
     let C = code_of k in
     let p = c.args.p.now in
-    record {
-      lawful = λ ps r.
-          let is = c.in-Some.ensures.tells ps r in
-          leaf_gone k (g.S.PageStore.pages c.args.store.now) ps p c.args.page (ap (live C p) (sym is) ∙ sym c.holds.ensures ∙ c.if-not-holds.false)
-          (ap length (ap (without_point C p) (sym is) ∙ sym c.without-rest.ensures) ∙ sym c.count.ensures ∙ c.if-count-eq0.true);
-      always = (refl, (c.requires.there, tt));
-    }
+    let is = c.in-Some.ensures.tells ps r in
+    leaf_gone k (g.S.PageStore.pages c.args.store.now) ps p c.args.page (ap (live C p) (sym is) ∙ sym c.holds.ensures ∙ c.if-not-holds.false)
+    (ap length (ap (without_point C p) (sym is) ∙ sym c.without-rest.ensures) ∙ sym c.count.ensures ∙ c.if-count-eq0.true)
 
 pub page-requires : goal.page-requires
 page-requires g c =

@@ -1,5 +1,4 @@
-use Rattle.std.proofs.Common.{◌≡◌, ◌<◌, List, ◌++◌, length, sym, refl, ap, ◌∙◌, subst, ap₂, inl, inr, arith}
-use Rattle.std.proofs.lemmas.List.{length-set}
+use Rattle.std.proofs.Common.{◌≡◌, List, ◌++◌, length, sym, refl, ap, ◌∙◌, subst, ap₂, arith}
 use Rattle.kinds.specs.Kind.{code_of}
 use Rattle.tree.specs.Sets.{live, without_point}
 use Rattle.hand.specs.Hands.{listed}
@@ -8,7 +7,6 @@ use Rattle.access.proofs.Writes.{written_as}
 use Rattle.access.specs.Reached.{chosen}
 use Rattle.take.specs.declared.taken.Taken.TheVariants.{Left}
 use Rattle.take.specs.Shrinking.{Shrunk}
-use Rattle.take.proofs.DataPages.{few_left}
 use Rattle.take.proofs.Chosen.{chosen_length}
 use Rattle.take.proofs.Ups.{own_told, other_told, live_there, both_fit, pair_gone, pair_merged}
 use Rattle.take.proofs.pair.take_pair.Goals as goal
@@ -30,8 +28,8 @@ returns-in_err-beside-clause-lawful g c ps above q l h d few =
     (λ zs. ⊥) _ c.points_at.ensures.keeps c.in_err-beside.ensures.tells)
 
 -- the point is not there
-pub returns-then-not-holds : goal.returns-then-not-holds
-returns-then-not-holds g c =
+pub returns-then-not-holds-clause-lawful : goal.returns-then-not-holds-clause-lawful
+returns-then-not-holds-clause-lawful g c ps above q l h d few =
     let k = g.K.PointKind.kind in
     let s = g.met.K.PointKind.sound in
     let card = g.S.PageStore.pages c.args.store.now in
@@ -42,16 +40,12 @@ returns-then-not-holds g c =
     let own = c.sides-own.result.0 in
     let other = c.sides-own.result.1 in
     let sides = c.sides-own.ensures in
-    record {
-      lawful = λ ps above q l h d few.
-          let is = own_told k s card ps e above x bit p q l h d few own other sides.own sides.other (λ zs. listed c.in_ok-points.points ≡ zs) c.in_ok-points.ensures.tells in
-          (sym (live_there k s card ps e above x bit p q l h d few own other sides.own sides.other) ∙ ap (live (code_of k) p) (sym is) ∙ sym c.holds.ensures ∙ c.if-not-holds.true, refl);
-      always = (c.points_at-2.ensures.keeps ∙ c.points_at.ensures.keeps, inr refl);
-    }
+    let is = own_told k s card ps e above x bit p q l h d few own other sides.own sides.other (λ zs. listed c.in_ok-points.points ≡ zs) c.in_ok-points.ensures.tells in
+    (sym (live_there k s card ps e above x bit p q l h d few own other sides.own sides.other) ∙ ap (live (code_of k) p) (sym is) ∙ sym c.holds.ensures ∙ c.if-not-holds.true, refl)
 
 -- its page had no other point
-pub returns-then-count-eq0 : goal.returns-then-count-eq0
-returns-then-count-eq0 g c =
+pub returns-then-count-eq0-clause-lawful : goal.returns-then-count-eq0-clause-lawful
+returns-then-count-eq0-clause-lawful g c ps above q l h d few =
     let k = g.K.PointKind.kind in
     let s = g.met.K.PointKind.sound in
     let card = g.S.PageStore.pages c.args.store.now in
@@ -63,27 +57,14 @@ returns-then-count-eq0 g c =
     let other = c.sides-own.result.1 in
     let sides = c.sides-own.ensures in
     let keeps = c.points_at-2.ensures.keeps ∙ c.points_at.ensures.keeps in
-    record {
-      lawful = λ ps above q l h d few.
-          let is = own_told k s card ps e above x bit p q l h d few own other sides.own sides.other (λ zs. listed c.in_ok-points.points ≡ zs) c.in_ok-points.ensures.tells in
-          subst (Shrunk k card ps p _ (Left other _)) (sym keeps)
-          (pair_gone k s card ps e above x bit p q l h d few own other sides.own sides.other (ap (live (code_of k) p) (sym is) ∙ sym c.holds.ensures ∙ c.if-not-holds.false)
-          (ap length (ap (without_point (code_of k) p) (sym is) ∙ sym c.without-rest.ensures) ∙ sym c.count.ensures ∙ c.if-count-eq0.true));
-      always = (ap length keeps, (c.requires.there, (c.in_ok-points.ensures.sane.0, tt)));
-    }
-
-pub overflow_add-count : goal.overflow_add-count
-overflow_add-count g c =
-    let a = few_left (code_of g.K.PointKind.kind) c.args.p.now (listed c.in_ok-points.points) in
-    let b = ap length c.without-rest.ensures in
-    let m = c.in_ok-points.ensures.sane.2 in
-    let n = c.in_ok-beside.ensures.sane.2 in
-    let small = g.met.K.PointKind.sound.small in
-    record { fits = omega (arith, c.count-2.ensures, c.count-3.ensures) }
+    let is = own_told k s card ps e above x bit p q l h d few own other sides.own sides.other (λ zs. listed c.in_ok-points.points ≡ zs) c.in_ok-points.ensures.tells in
+    subst (Shrunk k card ps p _ (Left other _)) (sym keeps)
+    (pair_gone k s card ps e above x bit p q l h d few own other sides.own sides.other (ap (live (code_of k) p) (sym is) ∙ sym c.holds.ensures ∙ c.if-not-holds.false)
+    (ap length (ap (without_point (code_of k) p) (sym is) ∙ sym c.without-rest.ensures) ∙ sym c.count.ensures ∙ c.if-count-eq0.true))
 
 -- more points than one page has room for
-pub returns-then-count-CAPACITY : goal.returns-then-count-CAPACITY
-returns-then-count-CAPACITY g c =
+pub returns-then-count-CAPACITY-clause-lawful : goal.returns-then-count-CAPACITY-clause-lawful
+returns-then-count-CAPACITY-clause-lawful g c ps above q l h d few =
     let k = g.K.PointKind.kind in
     let s = g.met.K.PointKind.sound in
     let card = g.S.PageStore.pages c.args.store.now in
@@ -94,16 +75,12 @@ returns-then-count-CAPACITY g c =
     let own = c.sides-own.result.0 in
     let other = c.sides-own.result.1 in
     let sides = c.sides-own.ensures in
-    record {
-      lawful = λ ps above q l h d few.
-          let is = own_told k s card ps e above x bit p q l h d few own other sides.own sides.other (λ zs. listed c.in_ok-points.points ≡ zs) c.in_ok-points.ensures.tells in
-          let is' = other_told k s card ps e above x bit p q l h d few own other sides.own sides.other (λ zs. listed c.in_ok-beside.beside ≡ zs) _ c.points_at.ensures.keeps c.in_ok-beside.ensures.tells in
-          let fit = both_fit k s card ps e above x bit p q l h d few own other sides.own sides.other (ap (live (code_of k) p) (sym is) ∙ sym c.holds.ensures ∙ c.if-not-holds.false) in
-          let a = ap length (c.without-rest.ensures ∙ ap (without_point (code_of k) p) is) in
-          let b = ap length is' in
-          absurd (omega (arith, c.count-2.ensures, c.count-3.ensures, c.CAPACITY.ensures, g.met.K.PointKind.constants.1, c.if-count-CAPACITY.true));
-      always = (c.points_at-2.ensures.keeps ∙ c.points_at.ensures.keeps, inl refl);
-    }
+    let is = own_told k s card ps e above x bit p q l h d few own other sides.own sides.other (λ zs. listed c.in_ok-points.points ≡ zs) c.in_ok-points.ensures.tells in
+    let is' = other_told k s card ps e above x bit p q l h d few own other sides.own sides.other (λ zs. listed c.in_ok-beside.beside ≡ zs) _ c.points_at.ensures.keeps c.in_ok-beside.ensures.tells in
+    let fit = both_fit k s card ps e above x bit p q l h d few own other sides.own sides.other (ap (live (code_of k) p) (sym is) ∙ sym c.holds.ensures ∙ c.if-not-holds.false) in
+    let a = ap length (c.without-rest.ensures ∙ ap (without_point (code_of k) p) is) in
+    let b = ap length is' in
+    absurd (omega (arith, c.count-2.ensures, c.count-3.ensures, c.CAPACITY.ensures, g.met.K.PointKind.constants.1, c.if-count-CAPACITY.true))
 
 pub page-requires : goal.page-requires
 page-requires g c =
@@ -116,8 +93,8 @@ entry-requires g c =
     omega (arith, c.count.ensures, c.if-count-eq0.false)
 
 -- both become one page
-pub returns : goal.returns
-returns g c =
+pub returns-clause-lawful : goal.returns-clause-lawful
+returns-clause-lawful g c ps above q l h d few =
     let k = g.K.PointKind.kind in
     let s = g.met.K.PointKind.sound in
     let card = g.S.PageStore.pages c.args.store.now in
@@ -131,15 +108,11 @@ returns g c =
     let keeps = c.points_at-2.ensures.keeps ∙ c.points_at.ensures.keeps in
     let xs = listed c.in_order-all.result in
     let written = written_as c.put_page.ensures keeps c.from.ensures c.page.ensures in
-    record {
-      lawful = λ ps above q l h d few.
-          let is = own_told k s card ps e above x bit p q l h d few own other sides.own sides.other (λ zs. listed c.in_ok-points.points ≡ zs) c.in_ok-points.ensures.tells in
-          let is' = other_told k s card ps e above x bit p q l h d few own other sides.own sides.other (λ zs. listed c.in_ok-beside.beside ≡ zs) _ c.points_at.ensures.keeps c.in_ok-beside.ensures.tells in
-          let left = c.without-rest.ensures ∙ ap (without_point (code_of k) p) is in
-          let n = ap length left in
-          pair_merged k s card ps e above x bit p q l h d few own other sides.own sides.other c.entry.result xs (g.S.PageStore.pages c.put_page.new.store)
-          (c.in_order-all.ensures ∙ ap₂ (λ (us vs : List g.row.K.Denot). chosen bit (us ++ vs) (vs ++ us)) left is')
-          (ap (live (code_of k) p) (sym is) ∙ sym c.holds.ensures ∙ c.if-not-holds.false) (omega (arith, c.count.ensures, c.if-count-eq0.false))
-          (entry_of k c.entry.result own.page xs xs refl c.entry.ensures.page c.entry.ensures.count c.entry.ensures.low c.entry.ensures.high) written;
-      always = (ap length written ∙ length-set card own.page _, (c.requires.there, (subst (λ a. other.page < length a) c.points_at.ensures.keeps c.in_ok-beside.ensures.sane.0, tt)));
-    }
+    let is = own_told k s card ps e above x bit p q l h d few own other sides.own sides.other (λ zs. listed c.in_ok-points.points ≡ zs) c.in_ok-points.ensures.tells in
+    let is' = other_told k s card ps e above x bit p q l h d few own other sides.own sides.other (λ zs. listed c.in_ok-beside.beside ≡ zs) _ c.points_at.ensures.keeps c.in_ok-beside.ensures.tells in
+    let left = c.without-rest.ensures ∙ ap (without_point (code_of k) p) is in
+    let n = ap length left in
+    pair_merged k s card ps e above x bit p q l h d few own other sides.own sides.other c.entry.result xs (g.S.PageStore.pages c.put_page.new.store)
+    (c.in_order-all.ensures ∙ ap₂ (λ (us vs : List g.row.K.Denot). chosen bit (us ++ vs) (vs ++ us)) left is')
+    (ap (live (code_of k) p) (sym is) ∙ sym c.holds.ensures ∙ c.if-not-holds.false) (omega (arith, c.count.ensures, c.if-count-eq0.false))
+    (entry_of k c.entry.result own.page xs xs refl c.entry.ensures.page c.entry.ensures.count c.entry.ensures.low c.entry.ensures.high) written

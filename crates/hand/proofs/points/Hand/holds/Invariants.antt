@@ -1,8 +1,8 @@
-use Rattle.std.proofs.Common.{◌≡◌, drop}
+use Rattle.std.proofs.Common.{◌≡◌}
 use Rattle.kinds.specs.Kind.{code_of}
 use Rattle.tree.specs.Sets.{live}
-use Rattle.hand.specs.Hands.{listed}
+use Rattle.hand.specs.Hands.{listed, left}
 use Rattle.hand.proofs.points.Hand.holds.Given as goal
 
-abbrev pub invariant-loop-i : goal.invariant-loop-i
-invariant-loop-i g l = live (code_of g.K.PointKind.kind) l.p (drop l.i (listed l.self)) ≡ live (code_of g.K.PointKind.kind) l.p (listed l.self)
+abbrev pub invariant-loop-point : goal.invariant-loop-point
+invariant-loop-point g l = live (code_of g.K.PointKind.kind) l.p (left l.point-iterator) ≡ live (code_of g.K.PointKind.kind) l.p (listed l.self)

@@ -1,45 +1,40 @@
-use Rattle.std.proofs.Common.{◌≡◌, ◌<◌, List, map, length, sym, subst, arith}
+use Rattle.std.proofs.Common.{◌≡◌, List, map, sym, subst, arith}
 use Rattle.page.specs.declared.data_page.DataView.{DataView}
 use Rattle.page.specs.Form.{Point, data_view}
 use Rattle.page.specs.Fields.{Reads}
 use Rattle.page.specs.Checks.{IsData}
 use Rattle.hand.specs.Hands.{listed}
-use Rattle.hand.proofs.Reading.{never_refused, more_read, read_count, all_read, same_points, sane_points}
+use Rattle.hand.proofs.Reading.{never_refused, read_count, all_read, same_points, some_points, point_on}
 use Rattle.hand.proofs.points.Hand.of_page.Goals as goal
 
 -- a data page is read
-pub returns-in_default : goal.returns-in_default
-returns-in_default g c =
+pub returns-in_default-clause-tells : goal.returns-in_default-clause-tells
+returns-in_default-clause-tells g c ps r =
     let k = g.K.PointKind.kind in
     let bs = c.args.bytes.now in
-    record {
-      tells = λ ps r. never_refused k g.met.K.PointKind.sound bs {X = DataView g.row.K.Denot} _ 0 (λ v. (v.bytes.now ≡ bs) × IsData k bs) c.in_default.field-0 r c.in_default.ensures;
-      sane = tt;
-    }
+    never_refused k g.met.K.PointKind.sound bs {X = DataView g.row.K.Denot} _ 0 (λ v. (v.bytes.now ≡ bs) × IsData k bs) c.in_default.field-0 r c.in_default.ensures
+
+pub one-hand-requires : goal.one-hand-requires
+one-hand-requires g c =
+    let k = g.K.PointKind.kind in
+    let (same, (xs, r)) = c.in-Ok.ensures.1 in
+    let p = c.in_ok-first.ensures xs (subst (λ x. Reads k x (data_view xs)) (sym same) r) in
+    point_on k c.args.bytes.now xs 0 c.in_ok-first.first r p.0 p.1
 
 -- the view has the bytes of the page
 pub push-requires : goal.push-requires
 push-requires g c =
     let k = g.K.PointKind.kind in
-    let e = c.in-Ok.ensures.1 in
-    let (xs, r) = e.1 in
+    let bs = c.args.bytes.now in
+    let (same, (xs, r)) = c.in-Ok.ensures.1 in
+    let r' = subst (λ x. Reads k x (data_view xs)) (sym same) r in
     let i = c.loop-i.invariant xs r in
-    let n = read_count k g.met.K.PointKind.sound c.args.bytes.now (listed c.loop-i.hand) xs c.loop-i.i i.0 i.1 in
-    let q = c.count-i-end.ensures xs (subst (λ x. Reads k x (data_view xs)) (sym e.0) r) in
+    let p = c.in_ok-point.ensures xs r' in
+    let n = read_count k g.met.K.PointKind.sound bs (listed c.loop-i.hand) xs c.loop-i.i i.0 i.1 in
+    let q = c.count-i-end.ensures xs r' in
     let m = g.met.K.PointKind.sound.small in
     let b = r.fields.fit in
-    let few : length (listed c.loop-i.hand) < 16 = omega (arith, c.loop-i-test.true) in
-    few
-
-pub loop-i-preserved : goal.loop-i-preserved
-loop-i-preserved g c xs r =
-    let k = g.K.PointKind.kind in
-    let e = c.in-Ok.ensures.1.0 in
-    let r' = subst (λ x. Reads k x (data_view xs)) (sym e) r in
-    let i = c.loop-i.invariant xs r in
-    let p = c.in-Some-point.ensures xs r' in
-    let lt = p.0 in
-    (more_read k g.met.K.PointKind.sound c.args.bytes.now (listed c.loop-i.hand) (listed c.push.new.self) c.in-Some-point.point xs c.loop-i.i i.0 lt p.1 c.push.ensures, omega arith)
+    record { on = point_on k bs xs c.loop-i.i c.in_ok-point.point r p.0 p.1; room = omega (arith, c.loop-i-test.true) }
 
 pub returns : goal.returns
 returns g c =
@@ -54,5 +49,5 @@ returns g c =
     all_read k s bs ps xs c.loop-i.i (c.loop-i.invariant xs r).0 (omega (arith, c.loop-i-test.false)) in
     record {
       tells = λ qs r. same_points k s bs ps qs (whole (map k.coords qs) r);
-      sane = sane_points k s bs ps e.1.0 (whole e.1.0 e.1.1) e.1.1;
+      sane = some_points k s bs ps e.1.0 (whole e.1.0 e.1.1) e.1.1;
     }

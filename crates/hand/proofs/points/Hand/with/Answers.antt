@@ -1,29 +1,14 @@
-use Rattle.std.proofs.Common.{◌+◌, ◌≤◌, [], ◌∷◌, ◌++◌, length, take, drop, sym, ap, ◌∙◌, arith, length-drop}
-use Rattle.std.proofs.lemmas.List.{append_assoc, length-take-le, length_push}
+use Rattle.std.proofs.Common.{[], ◌∷◌, ◌++◌, length, take, drop, sym, ap, ◌∙◌, arith}
+use Rattle.std.proofs.lemmas.List.{append_assoc, length-take-le}
 use Rattle.hand.specs.Hands.{listed}
-use Rattle.hand.proofs.Steps.{count_is}
 use Rattle.hand.proofs.points.Hand.with.Goals as goal
 
-pub first-hand-requires : goal.first-hand-requires
-first-hand-requires g c = let n = count_is c.args.self.now in let w = c.place-place.ensures.within in omega arith
-
-pub push-requires : goal.push-requires
-push-requires g c =
+pub push-requires-clause-room : goal.push-requires-clause-room
+push-requires-clause-room g c =
     let ps = listed c.args.self.now in
     let b = ap length c.first-hand.ensures ∙ length-take-le c.place-place.result ps c.place-place.ensures.within in
     let m = g.met.K.PointKind.sound.small in
     omega (arith, c.requires.few, c.place-place.ensures.within)
-
-pub append-requires : goal.append-requires
-append-requires g c =
-    let ps = listed c.args.self.now in
-    let r = c.place-place.result in
-    let a = ap length c.push.ensures ∙ length_push (listed c.first-hand.result) c.args.p.now in
-    let b = ap length c.first-hand.ensures ∙ length-take-le r ps c.place-place.ensures.within in
-    let d = length-drop r ps in
-    let m = g.met.K.PointKind.sound.small in
-    let few : length (listed c.push.new.self) + length (drop r ps) ≤ 16 = omega (arith, c.requires.few, c.place-place.ensures.within) in
-    few
 
 pub returns : goal.returns
 returns g c =
