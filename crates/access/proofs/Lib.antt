@@ -3,3 +3,4 @@ pub mod Nodes
 pub mod Reaching
 pub mod Choosing
 pub mod Writes
+pub mod Refusing

@@ -48,6 +48,7 @@ fn fork_page<K: PointKind>(depth: u32, bit: u64, own: &Entry<K>, other: &Entry<K
     ensures { result ≡ encode K.PointKind.kind (directory_view depth (chosen bit (summary K.PointKind.kind own.now) (summary K.PointKind.kind other.now)) (chosen bit (summary K.PointKind.kind other.now) (summary K.PointKind.kind own.now))) }
 {
     let fork = fork_of(depth, bit, own, other);
+    // a cast, as no code has more than 60 bits
     directory_page(fork.depth as u8, &fork.low, &fork.high)
 }
 
@@ -106,9 +107,7 @@ fn put_here<K: PointKind, S: PageStore>(
             used: None,
         });
     }
-    let Some(pages) = spare else {
-        return Err(Refusal::Full);
-    };
+    let pages = spare.ok_or(Refusal::Full)?;
     Ok(split(store, &all, at.page, pages))
 }
 
@@ -159,9 +158,7 @@ pub(crate) fn insert<K: PointKind, S: PageStore>(
     }
     let (bytes, node) = load_node::<K, S>(store, at.page)?;
     let Node::Directory(fork) = node else {
-        let Some(points) = Hand::<K>::of_page(&bytes) else {
-            return Err(Refusal::Damaged);
-        };
+        let points = Hand::<K>::of_page(&bytes).ok_or(Refusal::Damaged)?;
         return put_here(store, &points, &at, p, spare);
     };
     if fork.depth < above {
@@ -169,9 +166,7 @@ pub(crate) fn insert<K: PointKind, S: PageStore>(
     }
     let shared = depth(&at.low, p);
     if shared < fork.depth {
-        let Some(pages) = spare else {
-            return Err(Refusal::Full);
-        };
+        let pages = spare.ok_or(Refusal::Full)?;
         return Ok(put_beside(store, &at, shared, p, pages));
     }
     let bit = bit_of(p, fork.depth);

@@ -43,6 +43,7 @@ pub(crate) fn take_below<K: PointKind, S: PageStore>(
         return Err(Refusal::Absent);
     }
     let side = bit(p, fork.depth);
+    // no `From` makes a `usize` of a `u32`
     if at.count as usize <= K::CAPACITY + 1 {
         return take_pair(store, &at, &fork, side, p);
     }
@@ -57,6 +58,7 @@ pub(crate) fn take_below<K: PointKind, S: PageStore>(
         }
         Taken::Left(half, freed) => {
             let next = fork_of(fork.depth, side, &half, &other);
+            // a cast, as no code has more than 60 bits
             let written = directory_page::<K>(next.depth as u8, &next.low, &next.high);
             put_page(store, usize::from(at.page), &written);
             Ok(Taken::Left(narrowed(&at, &next), freed))

@@ -28,9 +28,7 @@ pub(crate) fn take_here<K: PointKind, S: PageStore>(
     ensures lawful { (ps : List K) → Reads K.PointKind.kind bytes.now (data_view (map K.PointKind.kind.coords ps)) → TakeEnd K.PointKind.kind (S.PageStore.pages store.old) ps p.now (data_at page ps) result (S.PageStore.pages store.new) }
     ensures always { AnyEnd (S.PageStore.pages store.old) result (S.PageStore.pages store.new) }
 {
-    let Some(points) = Hand::<K>::of_page(bytes) else {
-        return Err(Refusal::Damaged);
-    };
+    let points = Hand::<K>::of_page(bytes).ok_or(Refusal::Damaged)?;
     if !points.holds(p) {
         return Err(Refusal::Absent);
     }

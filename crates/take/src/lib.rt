@@ -30,10 +30,7 @@ pub fn take<K: PointKind, S: PageStore>(store: &mut S, p: &K) -> Result<(), Refu
         return Err(Refusal::OffAxis);
     }
     let head = load_head::<K, S>(store)?;
-    let root = head.root;
-    let Some(root) = root else {
-        return Err(Refusal::Absent);
-    };
+    let root = head.root.ok_or(Refusal::Absent)?;
     // two more pages may become free, and their number has two bytes
     if head.free > u16::MAX - 2 {
         return Err(Refusal::Damaged);

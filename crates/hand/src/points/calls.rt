@@ -27,6 +27,7 @@ impl<K: PointKind> Hand<K> {
         };
         let first = view.point(0)?;
         let mut hand = Hand::one(first);
+        // by its place, since a place of a damaged page may have no point
         for i in 1..view.count() {
             let point = view.point(i)?;
             hand.push(point);
@@ -132,6 +133,7 @@ impl<K: PointKind> Hand<K> {
         }
         Entry {
             page,
+            // a cast, as there are 16 points at most
             count: self.count as u32,
             low,
             high,
@@ -145,6 +147,7 @@ impl<K: PointKind> Hand<K> {
     {
         let mut page = [0; 64];
         page[0] = K::DATA_PAGE;
+        // a cast, as there are 16 points at most
         page[1] = self.count as u8;
         let mut at = 2;
         for point in self.iter() {

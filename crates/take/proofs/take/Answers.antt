@@ -5,6 +5,8 @@ use Rattle.page.specs.Form.{Summary, head_view, encode}
 use Rattle.page.specs.Checks.{root_summary, summary}
 use Rattle.tree.specs.Lawful.{Card}
 use Rattle.tree.specs.Book.{Takes, take_off, take_absent, take_done}
+use Rattle.refusal.specs.declared.Refusal.TheVariants.{Absent}
+use Rattle.access.proofs.Refusing.{given}
 use Rattle.access.proofs.Heads.{no_root, rooted}
 use Rattle.take.specs.Shrinking.{freed, front_of, linked, left_entry, Shrunk, Shrinking}
 use Rattle.take.proofs.Cards.{live_has, live_has_not, root_shrinking, few_free, take_changed}
@@ -21,8 +23,8 @@ pub returns-in_err-head-clause-lawful : goal.returns-in_err-head-clause-lawful
 returns-in_err-head-clause-lawful g c ps w = absurd (c.in_err-head.ensures.lawful ps w)
 
 -- an empty draft
-pub returns-in_default-clause-lawful : goal.returns-in_default-clause-lawful
-returns-in_default-clause-lawful g c ps w =
+pub returns-in_err-root-clause-lawful : goal.returns-in_err-root-clause-lawful
+returns-in_err-root-clause-lawful g c ps w =
     let k = g.K.PointKind.kind in
     let s = g.met.K.PointKind.sound in
     let card = g.S.PageStore.pages c.args.store.now in
@@ -30,8 +32,9 @@ returns-in_default-clause-lawful g c ps w =
     let on = c.if-not-on_axes.ensures in
     let keeps = c.load_head.ensures.keeps in
     let h = c.in_ok-head.ensures.lawful ps w in
-    let none = (no_root k s card ps w (h.2 ∙ ap (root_summary k) c.in_default.is)).1 in
-    record { answers = take_absent on (λ has. let a = has.1 in let b = ap length none in omega arith); leaves = keeps }
+    let none = (no_root k s card ps w (h.2 ∙ ap (root_summary k) c.in_err-root.ensures.ok_part)).1 in
+    let exit = err_from_is_err_and c.from_residual-in_err-root.result c.from_residual-in_err-root.ensures.1 in
+    rw (exit.1, exit.2, given c.in_ok-head.head.root c.in_err-root.field-0.0 Absent c.in_err-root.ensures.value) (record { answers = take_absent on (λ has. let a = has.1 in let b = ap length none in omega arith); leaves = keeps })
 
 -- so many pages cannot be free
 pub returns-then-head-clause-lawful : goal.returns-then-head-clause-lawful
@@ -43,7 +46,7 @@ returns-then-head-clause-lawful g c ps w =
     let on = c.if-not-on_axes.ensures in
     let keeps = c.load_head.ensures.keeps in
     let h = c.in_ok-head.ensures.lawful ps w in
-    let r = rooted k s card ps w (summary k c.in-Some.root) (h.2 ∙ ap (root_summary k) c.in-Some.is) in
+    let r = rooted k s card ps w (summary k c.in_ok-root.root) (h.2 ∙ ap (root_summary k) c.in_ok-root.ensures.ok_part) in
     let few = few_free k s card ps w p r.tree r.is_root in
     absurd (omega (arith, h.1, c.if-head.true))
 
@@ -59,8 +62,8 @@ returns-in_err-taken-clause-lawful g c ps w =
     let exit = err_from_is_err_and c.from_residual-in_err-taken.result c.from_residual-in_err-taken.ensures.1 in
     let sub = c.in_err-taken.ensures in
     let h = c.in_ok-head.ensures.lawful ps w in
-    let r = rooted k s card ps w (summary k c.in-Some.root) (h.2 ∙ ap (root_summary k) c.in-Some.is) in
-    let reached = subst (λ (a : Card). Shrinking k a ps (summary k c.in-Some.root) 0 r.tree) (sym keeps) (root_shrinking k s card ps w p (summary k c.in-Some.root) r.tree r.is_root r.entry_is) in
+    let r = rooted k s card ps w (summary k c.in_ok-root.root) (h.2 ∙ ap (root_summary k) c.in_ok-root.ensures.ok_part) in
+    let reached = subst (λ (a : Card). Shrinking k a ps (summary k c.in_ok-root.root) 0 r.tree) (sym keeps) (root_shrinking k s card ps w p (summary k c.in_ok-root.root) r.tree r.is_root r.entry_is) in
     let no = sub.lawful ps r.tree reached in
     rw (exit.1, exit.2) (record { answers = subst (λ n. Takes k (length card) ps p (Err n)) (sym no.1) (take_absent on (live_has_not k s card ps w p on no.0)); leaves = sub.always.0 ∙ keeps })
 
@@ -89,8 +92,8 @@ returns-clause-lawful g c ps w =
     ∙ ap (λ (o : Option Summary). encode k (head_view (front_of (freed taken) first) (length (freed taken) + free) o)) made.root) in
     let within = subst (λ (a : Card). AllByRecursion (λ q. q < length a) (freed taken)) keeps sub.always.1 in
     let h = c.in_ok-head.ensures.lawful ps w in
-    let r = rooted k s card ps w (summary k c.in-Some.root) (h.2 ∙ ap (root_summary k) c.in-Some.is) in
-    let reached = subst (λ (a : Card). Shrinking k a ps (summary k c.in-Some.root) 0 r.tree) (sym keeps) (root_shrinking k s card ps w p (summary k c.in-Some.root) r.tree r.is_root r.entry_is) in
+    let r = rooted k s card ps w (summary k c.in_ok-root.root) (h.2 ∙ ap (root_summary k) c.in_ok-root.ensures.ok_part) in
+    let reached = subst (λ (a : Card). Shrinking k a ps (summary k c.in_ok-root.root) 0 r.tree) (sym keeps) (root_shrinking k s card ps w p (summary k c.in_ok-root.root) r.tree r.is_root r.entry_is) in
     let shrunk = subst (λ (a : Card). Shrunk k a ps p r.tree taken mid) keeps (sub.lawful ps r.tree reached) in
     record {
       answers = take_done on (live_has k s card ps w p on shrunk.was_live);

@@ -4,6 +4,9 @@ use Rattle.kinds.specs.Kind.{code_of}
 use Rattle.page.specs.Form.{data_view, encode}
 use Rattle.tree.specs.Sets.{live}
 use Rattle.tree.proofs.Halves.{length_with}
+use Rattle.std.proofs.lemmas.Result.{err_from_is_err_and}
+use Rattle.refusal.specs.declared.Refusal.TheVariants.{Full}
+use Rattle.access.proofs.Refusing.{given}
 use Rattle.access.proofs.Writes.{written_as}
 use Rattle.hand.specs.Hands.{listed}
 use Rattle.put.specs.Spares.{spares}
@@ -38,11 +41,13 @@ returns-then-count-CAPACITY-clause-lawful g c ps above q w =
     (written_as c.put_page.ensures refl c.from.ensures (c.page.ensures ∙ ap (λ ys. encode k (data_view (map k.coords ys))) c.with-all.ensures))
 
 -- a full page, and no pages at hand
-pub returns-in_default-clause-lawful : goal.returns-in_default-clause-lawful
-returns-in_default-clause-lawful g c ps above q w =
+pub returns-in_err-pages-clause-lawful : goal.returns-in_err-pages-clause-lawful
+returns-in_err-pages-clause-lawful g c ps above q w =
     let k = g.K.PointKind.kind in
     let is_full : k.capacity ≤ length (listed c.args.points.now) = omega (arith, c.count.ensures, c.CAPACITY.ensures, g.met.K.PointKind.constants.1, c.if-count-CAPACITY.false) in
-    here_full k g.met.K.PointKind.sound _ ps _ c.args.spare above q _ c.args.p.now w (sym c.holds.ensures ∙ c.if-holds.false) is_full c.requires.on c.in_default.is
+    let exit = err_from_is_err_and c.from_residual.result c.from_residual.ensures.1 in
+    rw (exit.1, exit.2, given c.args.spare c.in_err-pages.field-0.0 Full c.in_err-pages.ensures.value)
+    (here_full k g.met.K.PointKind.sound _ ps _ c.args.spare above q _ c.args.p.now w (sym c.holds.ensures ∙ c.if-holds.false) is_full c.requires.on c.in_err-pages.ensures.ok_part)
 
 pub split-requires : goal.split-requires
 split-requires g c =
@@ -56,7 +61,7 @@ split-requires g c =
     let most = c.requires.few in
     let all = c.with-all.ensures in
     let l = ap length all ∙ length_with (code_of k) p xs in
-    let there = subst (λ o. AllByRecursion (λ q. q < length (g.S.PageStore.pages c.args.store.now)) (spares o)) c.in-Some.is c.requires.spare_there in
+    let there = subst (λ o. AllByRecursion (λ q. q < length (g.S.PageStore.pages c.args.store.now)) (spares o)) c.in_ok-pages.ensures.ok_part c.requires.spare_there in
     record {
       few = omega (arith, l, most);
       some = omega (arith, l);
@@ -76,6 +81,6 @@ returns-clause-lawful g c ps above q w =
     let card = g.S.PageStore.pages c.args.store.now in
     let new : live (code_of k) p xs ≡ false = sym c.holds.ensures ∙ c.if-holds.false in
     let is_full : k.capacity ≤ length xs = omega (arith, c.count.ensures, c.CAPACITY.ensures, g.met.K.PointKind.constants.1, c.if-count-CAPACITY.false) in
-    let there = subst (λ o. AllByRecursion (λ q. q < length card) (spares o)) c.in-Some.is c.requires.spare_there in
-    let done = subst (λ ys. Split k card ys c.args.at.now.page c.in-Some.pages c.split.result (g.S.PageStore.pages c.split.new.store)) c.with-all.ensures c.split.ensures in
-    here_split k s _ ps _ c.args.spare above q xs p w new is_full c.in-Some.pages c.in-Some.is _ _ done there.0 there.1.0
+    let there = subst (λ o. AllByRecursion (λ q. q < length card) (spares o)) c.in_ok-pages.ensures.ok_part c.requires.spare_there in
+    let done = subst (λ ys. Split k card ys c.args.at.now.page c.in_ok-pages.pages c.split.result (g.S.PageStore.pages c.split.new.store)) c.with-all.ensures c.split.ensures in
+    here_split k s _ ps _ c.args.spare above q xs p w new is_full c.in_ok-pages.pages c.in_ok-pages.ensures.ok_part _ _ done there.0 there.1.0

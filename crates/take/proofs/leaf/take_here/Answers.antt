@@ -14,16 +14,18 @@ returns-then-count-eq0-clause-lawful g c ps r =
     let k = g.K.PointKind.kind in
     let C = code_of k in
     let p = c.args.p.now in
-    let is = c.in-Some.ensures.tells ps r in
+    let tells = rw c.in_ok-points.ensures.ok_part at c.of_page.ensures.tells in
+    let is = tells ps r in
     leaf_gone k (g.S.PageStore.pages c.args.store.now) ps p c.args.page (ap (live C p) (sym is) ∙ sym c.holds.ensures ∙ c.if-not-holds.false)
     (ap length (ap (without_point C p) (sym is) ∙ sym c.without-rest.ensures) ∙ sym c.count.ensures ∙ c.if-count-eq0.true)
 
 pub page-requires : goal.page-requires
 page-requires g c =
     let C = code_of g.K.PointKind.kind in
-    let a = few_left C c.args.p.now (listed c.in-Some.points) in
+    let a = few_left C c.args.p.now (listed c.in_ok-points.points) in
     let b = ap length c.without-rest.ensures in
-    let d = c.in-Some.ensures.sane.1 in
+    let sane = rw c.in_ok-points.ensures.ok_part at c.of_page.ensures.sane in
+    let d = sane.1 in
     omega arith
 
 -- points are left
@@ -34,7 +36,8 @@ returns-clause-lawful g c ps r =
     let p = c.args.p.now in
     let q = c.args.page in
     let card = g.S.PageStore.pages c.args.store.now in
-    let is = c.in-Some.ensures.tells ps r in
+    let tells = rw c.in_ok-points.ensures.ok_part at c.of_page.ensures.tells in
+    let is = tells ps r in
     let left = c.without-rest.ensures ∙ ap (without_point C p) is in
     let n = ap length left in
     leaf_left k card ps p q c.entry.result (g.S.PageStore.pages c.put_page.new.store) (ap (live C p) (sym is) ∙ sym c.holds.ensures ∙ c.if-not-holds.false) (omega (arith, c.if-count-eq0.false, c.count.ensures)) c.requires.there
