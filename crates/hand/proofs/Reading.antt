@@ -1,7 +1,8 @@
 -- The points of a data page.
-use Rattle.std.proofs.Common.{◌≡◌, ℕ, ◌+◌, ◌<◌, ◌≤◌, List, [], ◌∷◌, ◌++◌, map, length, get_or, take, Err, sym, refl, ap, ◌∙◌, subst, arith}
+use Rattle.std.proofs.Common.{◌≡◌, Some, None, Ok, Result, ℕ, ◌+◌, ◌<◌, ◌≤◌, List, [], ◌∷◌, ◌++◌, map, length, get_or, take, Err, sym, refl, ap, ◌∙◌, subst, arith}
 use Rattle.std.proofs.ByRecursion.{All-get_or}
 use Rattle.std.proofs.lemmas.List.{length-map, length-take-le, map-append, take_all, take_more}
+use Rattle.std.specs.Result.{result_ok}
 use Rattle.zorder.specs.Code.{OnAxes}
 use Rattle.kinds.specs.Kind.{Kind, Sound, On}
 use Rattle.page.specs.declared.fault.PageFault.{PageFault}
@@ -54,3 +55,12 @@ module _ {P : Type 0} (k : Kind P) (s : Sound k) (bs : List ℕ) where
 -- a point of a data page is on its axes
 pub point_on : {P : Type 0} (k : Kind P) (bs : List ℕ) (xs : List Point) (i : ℕ) (p : P) → Reads k bs (data_view xs) → i < length xs → k.coords p ≡ get_or xs i [] → On k p
 point_on k bs xs i p r lt e = subst (OnAxes k.axes) (sym e) (All-get_or (OnAxes k.axes) xs i [] lt r.fields.on_axes)
+
+-- a result that was turned into an option
+pub came : {X E : Type 0} (r : Result X E) (x : X) → Some x ≡ result_ok r → r ≡ Ok x
+came (Ok y) x h = cc
+came (Err e) x h = let z : ◌≡◌ {A = ℕ} 0 1 = cc in absurd (omega arith)
+
+pub gone : {X E : Type 0} (r : Result X E) → None ≡ result_ok r → (e : E) × (r ≡ Err e)
+gone (Ok y) h = let z : ◌≡◌ {A = ℕ} 0 1 = cc in absurd (omega arith)
+gone (Err e) h = (e, refl)

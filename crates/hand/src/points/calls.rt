@@ -22,9 +22,7 @@ impl<K: PointKind> Hand<K> {
         ensures tells { (ps : List K) → Reads K.PointKind.kind bytes.now (data_view (map K.PointKind.kind.coords ps)) → HoldsAll ps result }
         ensures sane { IfSome result (λ h. (1 ≤ length (listed h)) × (length (listed h) ≤ K.PointKind.kind.capacity)) }
     {
-        let Ok(view) = DataView::<K>::new(0, bytes) else {
-            return None;
-        };
+        let view = DataView::<K>::new(0, bytes).ok()?;
         let first = view.point(0)?;
         let mut hand = Hand::one(first);
         // by its place, since a place of a damaged page may have no point

@@ -4,20 +4,21 @@ use Rattle.page.specs.Form.{Point, data_view}
 use Rattle.page.specs.Fields.{Reads}
 use Rattle.page.specs.Checks.{IsData}
 use Rattle.hand.specs.Hands.{listed}
-use Rattle.hand.proofs.Reading.{never_refused, read_count, all_read, same_points, some_points, point_on}
+use Rattle.hand.proofs.Reading.{came, gone, never_refused, read_count, all_read, same_points, some_points, point_on}
 use Rattle.hand.proofs.points.Hand.of_page.Goals as goal
 
 -- a data page is read
-pub returns-in_default-clause-tells : goal.returns-in_default-clause-tells
-returns-in_default-clause-tells g c ps r =
+pub returns-in_err-view-clause-tells : goal.returns-in_err-view-clause-tells
+returns-in_err-view-clause-tells g c ps r =
     let k = g.K.PointKind.kind in
     let bs = c.args.bytes.now in
-    never_refused k g.met.K.PointKind.sound bs {X = DataView g.row.K.Denot} _ 0 (λ v. (v.bytes.now ≡ bs) × IsData k bs) c.in_default.field-0 r c.in_default.ensures
+    let (fault, is) = gone c.new.result c.in_err-view.ensures.value in
+    absurd (never_refused k g.met.K.PointKind.sound bs {X = DataView g.row.K.Denot} _ 0 (λ v. (v.bytes.now ≡ bs) × IsData k bs) fault r (rw is at c.new.ensures))
 
 pub one-hand-requires : goal.one-hand-requires
 one-hand-requires g c =
     let k = g.K.PointKind.kind in
-    let (same, (xs, r)) = c.in-Ok.ensures.1 in
+    let (same, (xs, r)) = (rw (came c.new.result c.in_ok-view.view c.in_ok-view.ensures.value) at c.new.ensures).1 in
     let p = c.in_ok-first.ensures xs (subst (λ x. Reads k x (data_view xs)) (sym same) r) in
     point_on k c.args.bytes.now xs 0 c.in_ok-first.first r p.0 p.1
 
@@ -26,7 +27,7 @@ pub push-requires : goal.push-requires
 push-requires g c =
     let k = g.K.PointKind.kind in
     let bs = c.args.bytes.now in
-    let (same, (xs, r)) = c.in-Ok.ensures.1 in
+    let (same, (xs, r)) = (rw (came c.new.result c.in_ok-view.view c.in_ok-view.ensures.value) at c.new.ensures).1 in
     let r' = subst (λ x. Reads k x (data_view xs)) (sym same) r in
     let i = c.loop-i.invariant xs r in
     let p = c.in_ok-point.ensures xs r' in
@@ -42,7 +43,7 @@ returns g c =
     let s = g.met.K.PointKind.sound in
     let bs = c.args.bytes.now in
     let ps = listed c.loop-i.hand in
-    let e = c.in-Ok.ensures.1 in
+    let e = (rw (came c.new.result c.in_ok-view.view c.in_ok-view.ensures.value) at c.new.ensures).1 in
     let whole : (xs : List Point) → Reads k bs (data_view xs) → map k.coords ps ≡ xs =
     λ xs r.
     let q = c.count-i-end.ensures xs (subst (λ x. Reads k x (data_view xs)) (sym e.0) r) in
