@@ -1,5 +1,5 @@
 -- What `ok_or` gives.
-use Rattle.std.proofs.Common.{◌≡◌, ℕ, Some, None, Option, Ok, Err, Result, arith}
+use Rattle.std.proofs.Common.{◌≡◌, ℕ, Some, None, Option, Err, Result, arith}
 use Rattle.std.specs.Option.{ok_or}
 
 -- where it gives an error, that is the one it was given

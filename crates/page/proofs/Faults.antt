@@ -7,7 +7,7 @@ use Rattle.zorder.specs.Sharing.{Under}
 use Rattle.kinds.specs.Bytes.{form, size}
 use Rattle.kinds.specs.Kind.{Kind, Sound, entry_length}
 use Rattle.std.specs.Option.{ok_or}
-use Rattle.page.specs.Form.{Point, Summary, root_bytes, times}
+use Rattle.page.specs.Form.{Point, Summary, root_bytes}
 use Rattle.page.specs.declared.fault.PageFault.TheVariants as fault
 use Rattle.page.specs.Fields.{RootFields}
 use Rattle.page.specs.Causes.{NotZero, AllZero, EntryCause, DataCause, DirectoryCause, HeadCause, Cause, low_off, high_off, crossed, no_points, too_many, point_off, data_not_zero, too_deep, low_wrong, high_wrong, directory_not_zero, root_wrong, head_not_zero, free_cause, data_cause, directory_cause, head_cause, root_entry_bytes}

@@ -1,9 +1,7 @@
 use Rattle.std.proofs.Common.{◌≤◌, ◌++◌, length, Ok, refl, ap, ◌∙◌, subst, arith, length-append}
-use Rattle.page.specs.declared.tree_page.Node.{Node}
 use Rattle.page.specs.Checks.{NodeRead, summary}
 use Rattle.tree.specs.Book.{outline}
 use Rattle.tree.specs.Laid.{shape}
-use Rattle.access.proofs.Nodes.{never_fault}
 use Rattle.access.proofs.Reaching.{reached_there, reached_reads, reached_on, leafed, forked, forked_deep, forked_short, forked_low, forked_high}
 use Rattle.outlines.specs.declared.record.Sort.TheVariants.{Directory}
 use Rattle.outlines.specs.Records.{Wrote, record_of}

@@ -1,9 +1,8 @@
-use Rattle.std.proofs.Common.{◌≡◌, suc, ◌+◌, ◌*◌, ◌<◌, length, Some, sym, refl, ap, ◌∙◌, subst, inl, inr, ⊎_elim, zero-mul, arith}
-use Rattle.page.specs.declared.head_page.Head.{Head}
-use Rattle.page.specs.Checks.{HeadRead, root_summary, summary}
+use Rattle.std.proofs.Common.{◌≡◌, suc, ◌+◌, ◌*◌, ◌<◌, length, sym, refl, ap, ◌∙◌, subst, inl, inr, ⊎_elim, zero-mul, arith}
+use Rattle.page.specs.Checks.{root_summary, summary}
 use Rattle.tree.specs.Book.{outline}
 use Rattle.tree.specs.Laid.{shape}
-use Rattle.access.proofs.Heads.{never_headless, head_is, no_root, rooted}
+use Rattle.access.proofs.Heads.{no_root, rooted}
 use Rattle.access.proofs.Reaching.{root_reached, reached_on}
 use Rattle.outlines.proofs.Ending.{never_err, ok_is}
 use Rattle.outlines.proofs.Roots.{free_fits, none_has, empty_outline, root_end, short_outline, whole_outline}

@@ -1,8 +1,8 @@
-use Rattle.std.proofs.Common.{◌≡◌, [], length, vec_items, vec_len, vec_capacity, Ok, Err, sym, subst, rules, arith, MatchResult}
+use Rattle.std.proofs.Common.{◌≡◌, [], length, vec_items, vec_len, vec_capacity, subst, rules, arith}
 use Rattle.std.proofs.lemmas.Result.{err_from_is_err_and}
 use Rattle.tree.specs.Lawful.{begun_card}
 use Rattle.draft.specs.declared.calls.Halt.{Halt}
-use Rattle.draft.specs.Runs.{Runs, WholeRun, Halted}
+use Rattle.draft.specs.Runs.{Runs, Halted}
 use Rattle.draft.proofs.Mapped.{mapped, both, was_ok, was_err}
 use Rattle.draft.proofs.run.run.Goals as goal
 

@@ -1,9 +1,8 @@
-use Rattle.std.proofs.Common.{Some, sym, refl, ap, ◌∙◌, subst, inl, inr, arith}
-use Rattle.page.specs.declared.head_page.Head.{Head}
-use Rattle.page.specs.Checks.{HeadRead, root_summary, summary}
+use Rattle.std.proofs.Common.{sym, refl, ap, ◌∙◌, subst, inl}
+use Rattle.page.specs.Checks.{root_summary, summary}
 use Rattle.tree.specs.Book.{ask_off}
 use Rattle.tree.specs.Standing.{Standing}
-use Rattle.access.proofs.Heads.{never_headless, head_is, no_root, rooted}
+use Rattle.access.proofs.Heads.{no_root, rooted}
 use Rattle.lookup.proofs.Asks.{ask_none, ask_found, ask_any}
 use Rattle.lookup.proofs.ask.ask.Goals as goal
 

@@ -1,9 +1,7 @@
-use Rattle.std.proofs.Common.{◌<◌, length, Ok, sym, refl, ap, ◌∙◌, subst, arith}
-use Rattle.page.specs.declared.tree_page.Node.{Node}
+use Rattle.std.proofs.Common.{Ok, sym, refl, ap, ◌∙◌, subst, arith}
 use Rattle.page.specs.Form.{data_view}
 use Rattle.page.specs.Fields.{Reads}
 use Rattle.page.specs.Checks.{NodeRead}
-use Rattle.access.proofs.Nodes.{never_fault}
 use Rattle.lookup.proofs.Walks.{first_turn, turn_stands, turn_bytes, turn_last, data_answer, leads_none, leads_on}
 use Rattle.lookup.proofs.ask.walk.Goals as goal
 

@@ -1,7 +1,4 @@
-use Rattle.std.proofs.Common.{rules, ◌≡◌, length, Some, sym, refl, ap, ◌∙◌, arith}
-use Rattle.page.specs.declared.head_page.Head.{Head}
-use Rattle.page.specs.Checks.{HeadRead, root_summary, summary}
-use Rattle.access.proofs.Heads.{never_headless, head_is, no_root, rooted}
+use Rattle.std.proofs.Common.{rules, ◌≡◌, length, sym, refl, ap, ◌∙◌, arith}
 use Rattle.lookup.proofs.Tallies.{all_points, free_fits, pages_left, data_are, directories_are, free_are}
 use Rattle.lookup.proofs.tally.tally.Goals.{then-count-gt65535-via-then-count-gt65535, then-count-gt65535-via-else-count-gt65535+then-count-from}
 use Rattle.lookup.proofs.tally.tally.Goals as goal

@@ -1,5 +1,4 @@
-use Rattle.std.proofs.Common.{None, Option, ℕ, List, ◌≡◌, ◌+◌, ◌*◌, length, get_or, take, drop, replicate, sym, refl, ap, ◌∙◌, subst, arith}
-use Rattle.kinds.specs.Bytes.{size}
+use Rattle.std.proofs.Common.{None, Option, ℕ, List, ◌≡◌, ◌+◌, ◌*◌, length, take, drop, replicate, sym, ap, ◌∙◌, subst, arith}
 use Rattle.kinds.specs.Kind.{entry_length}
 use Rattle.page.specs.Causes.{EntryCause, too_deep, low_wrong, high_wrong, directory_not_zero, directory_cause}
 use Rattle.page.specs.Checks.{summary, DirectoryRead}

@@ -4,7 +4,7 @@ use Rattle.std.proofs.lemmas.List.{take_all}
 use Rattle.kinds.specs.Kind.{size_of, bytes_of}
 use Rattle.page.specs.Form.{padded}
 use Rattle.page.proofs.Runs.{within_page}
-use Rattle.page.proofs.Writing.{padded_long, joined_more, data_made}
+use Rattle.page.proofs.Writing.{joined_more, data_made}
 use Rattle.page.proofs.encode.data_page.Given as given
 use Rattle.page.proofs.encode.data_page.Goals as goal
 

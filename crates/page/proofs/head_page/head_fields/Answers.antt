@@ -1,5 +1,4 @@
-use Rattle.std.proofs.Common.{◌≡◌, ◌+◌, ◌*◌, ◌≤◌, length, get_or, take, drop, replicate, Some, None, sym, ap, ◌∙◌, subst, arith}
-use Rattle.kinds.specs.Bytes.{size}
+use Rattle.std.proofs.Common.{◌≡◌, ◌+◌, ◌≤◌, length, get_or, take, drop, replicate, Some, None, sym, ap, ◌∙◌, subst, arith}
 use Rattle.kinds.specs.Kind.{entry_length}
 use Rattle.page.specs.Causes.{AllZero, EntryCause, root_wrong, head_not_zero, head_cause}
 use Rattle.page.specs.Checks.{summary, HeadRead}

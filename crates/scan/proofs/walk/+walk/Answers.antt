@@ -1,5 +1,4 @@
 use Rattle.std.proofs.Common.{◌+◌, ◌≤◌, map, length, sym, refl, ◌∙◌, subst, arith}
-use Rattle.page.specs.declared.tree_page.Node.{Node}
 use Rattle.page.specs.Checks.{NodeRead, summary}
 use Rattle.page.specs.Fields.{Reads}
 use Rattle.page.specs.Form.{data_view}
@@ -7,7 +6,6 @@ use Rattle.tree.specs.Laid.{numbers, shape}
 use Rattle.tree.specs.Standing.{view_of}
 use Rattle.tree.specs.Tree.{TreeOf}
 use Rattle.tree.proofs.Standings.{leaf_inv}
-use Rattle.access.proofs.Nodes.{never_fault}
 use Rattle.access.proofs.Reaching.{reached_there, reached_reads, leafed, forked, forked_deep}
 use Rattle.scan.proofs.Wholes.{whole}
 use Rattle.scan.proofs.Walking.{when_true, when_false, cases_and, cases_map, some_page, walked_on, below_of, halves_join, low_few, high_few, low_walked, high_walked, halves_spent}

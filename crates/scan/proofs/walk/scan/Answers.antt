@@ -1,8 +1,7 @@
-use Rattle.std.proofs.Common.{◌≡◌, suc, [], length, Some, sym, refl, ap, ◌∙◌, subst, arith}
-use Rattle.page.specs.declared.head_page.Head.{Head}
-use Rattle.page.specs.Checks.{HeadRead, root_summary, summary}
+use Rattle.std.proofs.Common.{◌≡◌, suc, [], length, sym, refl, ap, ◌∙◌, subst, arith}
+use Rattle.page.specs.Checks.{root_summary, summary}
 use Rattle.tree.specs.Book.{windowed}
-use Rattle.access.proofs.Heads.{never_headless, head_is, no_root, rooted}
+use Rattle.access.proofs.Heads.{no_root, rooted}
 use Rattle.scan.proofs.Walking.{cases_map, walked_on, root_walked, root_few_windowed}
 use Rattle.scan.proofs.walk.scan.Goals as goal
 

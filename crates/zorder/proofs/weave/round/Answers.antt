@@ -1,4 +1,4 @@
-use Rattle.std.proofs.Common.{ℕ, ◌+◌, ◌*◌, ◌≤◌, drop, sym, ap, ◌∙◌, refl, arith}
+use Rattle.std.proofs.Common.{ℕ, ◌+◌, drop, sym, ap, ◌∙◌, refl, arith}
 use Rattle.zorder.specs.Code.{digits, turns, after}
 use Rattle.zorder.specs.Raising.{widths_of, values_of}
 use Rattle.zorder.proofs.Points.{skipped, taken, bit_fits, narrow_at, turns_end}

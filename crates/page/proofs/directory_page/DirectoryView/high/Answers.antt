@@ -1,8 +1,7 @@
-use Rattle.std.proofs.Common.{◌≡◌, ◌+◌, ◌-◌, ◌*◌, length, take, drop, sym, refl, ap, ◌∙◌, arith}
+use Rattle.std.proofs.Common.{◌≡◌, ◌+◌, ◌-◌, take, drop, sym, refl, ap, ◌∙◌, arith}
 use Rattle.kinds.specs.Kind.{entry_length}
 use Rattle.page.proofs.Runs.{drop_plus}
 use Rattle.page.proofs.Pairs.{high_is}
-use Rattle.page.proofs.Ends.{part_size}
 use Rattle.page.proofs.directory_page.DirectoryView.high.Goals as goal
 
 pub returns : goal.returns

@@ -1,7 +1,6 @@
-use Rattle.std.proofs.Common.{◌≡◌, ◌+◌, ◌*◌, length, take, drop, sym, refl, ap, ◌∙◌, arith}
+use Rattle.std.proofs.Common.{take, drop, sym, refl, ap, ◌∙◌}
 use Rattle.kinds.specs.Kind.{entry_length}
 use Rattle.page.proofs.Pairs.{cut_low, low_is}
-use Rattle.page.proofs.Ends.{part_size}
 use Rattle.page.proofs.directory_page.DirectoryView.low.Goals as goal
 
 pub returns : goal.returns

@@ -1,7 +1,6 @@
-use Rattle.std.proofs.Common.{◌≡◌, ◌+◌, ◌*◌, length, take, drop, ap, ◌∙◌, subst, arith}
-use Rattle.kinds.specs.Kind.{entry_length}
+use Rattle.std.proofs.Common.{take, drop, ap, ◌∙◌, subst}
 use Rattle.page.specs.Causes.{AllZero}
-use Rattle.page.proofs.Ends.{cut_root, part_size, root_agrees}
+use Rattle.page.proofs.Ends.{cut_root, root_agrees}
 use Rattle.page.proofs.head_page.HeadView.root.Goals as goal
 
 pub returns-then-zeros : goal.returns-then-zeros

@@ -1,4 +1,4 @@
-use Rattle.std.proofs.Common.{◌+◌, [], ◌∷◌, ◌++◌, sym, refl, ap, subst, inl, inr, arith, length-append}
+use Rattle.std.proofs.Common.{◌+◌, [], ◌∷◌, ◌++◌, sym, ap, subst, inl, inr, arith, length-append}
 use Rattle.scan.specs.Listing.{Listed, ListFair}
 use Rattle.scan.proofs.Listing.{listed_pass, listed_put, fair_pass, fair_put}
 use Rattle.scan.proofs.list.ListerGather.point.Goals as goal
