@@ -45,6 +45,7 @@ trait Sample: PointKind {
 
 impl Sample for LayPoint {
     fn sample(random: &mut Random) -> LayPoint {
+        // casts, as each rest fits
         let bits = random.draw();
         LayPoint {
             course: (bits % 65536) as u16,
@@ -55,6 +56,7 @@ impl Sample for LayPoint {
 
 impl Sample for BarPoint {
     fn sample(random: &mut Random) -> BarPoint {
+        // casts, as each rest fits
         let bits = random.draw();
         BarPoint {
             course: (bits % 65536) as u16,

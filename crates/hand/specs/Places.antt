@@ -1,9 +1,7 @@
 -- Sixteen places, four by four.
-use Rattle.std.specs.Prelude.{ℕ, ℤ, ◌≤ℤ◌, ◌<ℤ◌, List, [], ◌∷◌, take}
-use Rattle.std.specs.Coded.{×_prop, Unit-prop}
+use Rattle.std.specs.Prelude.{ℕ, List, [], ◌∷◌, take}
 use Rattle.std.specs.List.{flat_map, AllByRecursion, AllByRecursion-prop}
-use lib.Dec.{T_prop}
-use Rattle.zorder.specs.Code.{Axis, OnAxes}
+use Rattle.zorder.specs.Props.{OnAxes-prop}
 use Rattle.kinds.specs.Kind.{Kind, On}
 use Rattle.hand.specs.declared.places.Four.{Four}
 
@@ -20,17 +18,5 @@ abbrev pub AllOn : {P : Type 0} → Kind P → ℕ → Four (Four P) → Type 0
 AllOn k count points = AllByRecursion (On k) (take count (sixteen points))
 
 -- which holds in one way at most
-≤ℤ-prop : {a b : ℤ} → IsProp (a ≤ℤ b)
-≤ℤ-prop p q = λ i. record { le = T_prop _ p.le q.le i }
-
-<ℤ-prop : {a b : ℤ} → IsProp (a <ℤ b)
-<ℤ-prop p q = λ i. record { lt = T_prop _ p.lt q.lt i }
-
-OnAxes-prop : (axes : List Axis) (zs : List ℤ) → IsProp (OnAxes axes zs)
-OnAxes-prop [] [] = Unit-prop
-OnAxes-prop [] (z ∷ zs) = λ p. absurd p
-OnAxes-prop (a ∷ axes) [] = λ p. absurd p
-OnAxes-prop (a ∷ axes) (z ∷ zs) = ×_prop (×_prop ≤ℤ-prop <ℤ-prop) (OnAxes-prop axes zs)
-
 pub AllOn-prop : {P : Type 0} (k : Kind P) (count : ℕ) (points : Four (Four P)) → IsProp (AllOn k count points)
 AllOn-prop k count points = AllByRecursion-prop (On k) (λ p. OnAxes-prop k.axes (k.coords p)) (take count (sixteen points))

@@ -46,7 +46,7 @@ pub trait PointKind: Copy {
     fn under(&self, other: &Self) -> bool
         ensures { Whether result (Under (kind.coords self.now) (kind.coords other.now)) };
 
-    // The smaller coordinate of two points on each axis.
+    // The smaller coordinate of two points on each axis. Each kind names its own coordinates here and below: one function for `min` and `max` would take the choice as a closure, and be longer.
     fn lower(&self, other: &Self) -> Self
         ensures { kind.coords result ≡ on_each int_min (kind.coords self.now) (kind.coords other.now) };
 

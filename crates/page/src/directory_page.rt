@@ -26,7 +26,7 @@ pub struct DirectoryView<'a, K> {
 }
 
 impl<'a, K: PointKind> DirectoryView<'a, K> {
-    // The directory page with these bytes.
+    // The directory page with these bytes. Each view says itself which kind and fields it asks for: a function for all would need a trait for views.
     pub fn new(page: usize, bytes: &'a [u8; 64]) -> Result<DirectoryView<'a, K>, PageFault>
         ensures { Checked K.PointKind.kind page (K.PointKind.kind.directory_kind ∷ []) bytes.now (λ v. (v.bytes.now ≡ bytes.now) × IsDirectory K.PointKind.kind bytes.now) result }
     {

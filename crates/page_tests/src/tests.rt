@@ -27,7 +27,7 @@ fn bar(course: u16, bar: u16, shog: i16) -> BarPoint
     BarPoint { course, bar, shog }
 }
 
-// The points of a full data page.
+// The points of a full data page. Casts, as each place is below 15.
 fn full_lay() -> [LayPoint; 15] {
     array::from_fn(
         |place|

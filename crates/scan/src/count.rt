@@ -44,7 +44,7 @@ impl<K: PointKind> Gather<K> for Counter {
     }
 }
 
-// How many live points lie in the window. 3 if a corner is off an axis, then 2 if the corners are crossed, then 9.
+// How many live points lie in the window. Here, in pick and in list what is gathered differs, and the two steps round it are no more than a call would be. 3 if a corner is off an axis, then 2 if the corners are crossed, then 9.
 pub fn count<K: PointKind, S: PageStore>(
     store: &mut S,
     window: &Window<K>,

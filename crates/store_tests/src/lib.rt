@@ -27,6 +27,9 @@ pub fn rising() -> [u8; 64]
         |place|
             requires { place < 64 }
             ensures { result ≡ place }
-        { place as u8 },
+        // a cast, as the place is below 64
+        {
+            place as u8
+        },
     )
 }
