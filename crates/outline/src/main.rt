@@ -53,7 +53,7 @@ fn outlined(mut replies: Vec<Reply<LayPoint>>) -> Option<Vec<u8>> {
     }
 }
 
-// How the outline is written.
+// How the outline is written: the argument's word as a value, so that one place names all words. A closure for each would have to be handed out.
 #[derive(Clone, Copy)]
 enum Form {
     Bytes,

@@ -24,7 +24,7 @@ use store::page_store::PageStore;
 mod record;
 
 // The records of the pages that an entry leads to, from a place of the buffer on: the page, its low half's pages, its high half's. It answers the place behind them.
-// The depth rises from page to page, and no record stands past `end`, else 9.
+// The depth rises from page to page, and no record stands past `end`, else 9. Buffer, place and end are three parameters: a struct of them would be taken apart by each clause on the bytes.
 fn outline_below<K: PointKind, S: PageStore>(
     store: &mut S,
     entry: Entry<K>,

@@ -8,7 +8,7 @@ use refusal::Refusal;
 use std::fmt;
 use store::fault::StoreFault;
 
-// A page that cannot be read as what it should be. Each case has the number of a page.
+// A page that cannot be read as what it should be. Each case has the number of a page, which readers take beside the bytes for this alone: a struct of both would be made for one call.
 #[derive(Clone, Copy, PartialEq, Eq, Debug)]
 pub enum PageFault {
     // the store refused
