@@ -132,7 +132,10 @@ fn lay_entries_are_read(rt: HostRuntime) -> Result<(), Fail> {
     let head = HeadView::<LayPoint>::new(0, LAY_HEAD)?;
     assert_eq!(rt; head.first(), 0);
     assert_eq!(rt; head.free(), 258);
-    let root = head.root().ok_or(Fail::new("no root"))?;
+    // written out, as a `Fail` may not be let go, which `ok_or` asks
+    let Some(root) = head.root() else {
+        return Err(Fail::new("no root"));
+    };
     assert_eq!(rt; root.page(), 7);
     assert_eq!(rt; root.count(), 70_016);
     assert_eq!(rt; root.low(), Some(lay(0, -2048)));
@@ -231,7 +234,10 @@ fn bar_entries_are_read(rt: HostRuntime) -> Result<(), Fail> {
     let head = HeadView::<BarPoint>::new(0, BAR_HEAD)?;
     assert_eq!(rt; head.first(), 0);
     assert_eq!(rt; head.free(), 258);
-    let root = head.root().ok_or(Fail::new("no root"))?;
+    // written out, as a `Fail` may not be let go, which `ok_or` asks
+    let Some(root) = head.root() else {
+        return Err(Fail::new("no root"));
+    };
     assert_eq!(rt; root.page(), 7);
     assert_eq!(rt; root.count(), 70_016);
     assert_eq!(rt; root.low(), Some(bar(0, 0, -2048)));
