@@ -25,10 +25,10 @@ pub fn load<S: PageStore>(store: &mut S, page: usize) -> Result<[u8; 64], Refusa
     ensures keeps { S.PageStore.pages store.new ≡ S.PageStore.pages store.old }
 {
     let mut bytes = [0; 64];
-    match store.read(page, &mut bytes) {
-        Ok(()) => Ok(bytes),
-        Err(_) => Err(Refusal::Damaged),
-    }
+    store
+        .read(page, &mut bytes)
+        .map_err(|_| Refusal::Damaged)?;
+    Ok(bytes)
 }
 
 // The head of a card, which a lawful card has. 9 where page 0 is no head.
@@ -63,7 +63,7 @@ pub fn put_page<S: PageStore>(store: &mut S, page: usize, bytes: &[u8; 64])
     let _ = store.write(page, bytes);
 }
 
-// The entry of the half of a bit, and that of the other half.
+// The entry of the half of a bit, and that of the other half. The half is told by the bit of the code that chooses it: an enum would be made of that bit for the call.
 pub fn sides<K: PointKind>(fork: &Fork<K>, bit: u64) -> (Entry<K>, Entry<K>)
     ensures own { result.0 ≡ chosen bit fork.now.low fork.now.high }
     ensures other { result.1 ≡ chosen bit fork.now.high fork.now.low }

@@ -10,7 +10,7 @@ ghost use Rattle.tree.specs.Standing.{Standing};
 ghost use Rattle.tree.specs.Book.{Asks};
 ghost use Rattle.lookup.specs.Asking.{Leads, FoundOr9, AskAny};
 
-use access::{load_head, load_node};
+use access::{load_head, load_node, sides};
 use kinds::kind::PointKind;
 use kinds::points::{bit, depth};
 use page::data_page::DataView;
@@ -29,11 +29,8 @@ fn onward<K: PointKind>(fork: &Fork<K>, p: &K) -> Option<u16>
     if depth(&fork.low.low, p) < fork.depth {
         return None;
     }
-    if bit(p, fork.depth) == 0 {
-        Some(fork.low.page)
-    } else {
-        Some(fork.high.page)
-    }
+    let (own, _other) = sides(fork, bit(p, fork.depth));
+    Some(own.page)
 }
 
 // The way of a point from a page on, at most one turn for each bit and one more.

@@ -1,5 +1,5 @@
 -- Each cause makes the bytes senseless.
-use Rattle.std.proofs.Common.{rules, ◌≡◌, ℕ, zero, suc, ◌+◌, ◌-◌, ◌*◌, ◌<◌, ◌≤◌, Bool, true, false, ◌≢◌, List, [], ◌∷◌, length, get_or, take, drop, replicate, Some, None, MatchBool, Option, sym, refl, ap, ◌∙◌, subst, arith, length-drop, get_or-drop}
+use Rattle.std.proofs.Common.{rules, ◌≡◌, ℕ, zero, suc, ◌+◌, ◌-◌, ◌*◌, ◌<◌, ◌≤◌, Bool, true, false, ◌≢◌, List, [], ◌∷◌, length, get_or, take, drop, replicate, Some, None, MatchBool, Option, Err, Result, sym, refl, ap, ◌∙◌, subst, arith, length-drop, get_or-drop}
 use Rattle.std.specs.List.{flat_map, AllByRecursion}
 use Rattle.std.proofs.ByRecursion.{All-get_or}
 use Rattle.zorder.specs.Code.{OnAxes}
@@ -7,7 +7,8 @@ use Rattle.zorder.specs.Sharing.{Under}
 use Rattle.kinds.specs.Bytes.{form, size}
 use Rattle.kinds.specs.Kind.{Kind, Sound, entry_length}
 use Rattle.std.specs.Option.{ok_or}
-use Rattle.page.specs.Form.{Point, Summary, root_bytes}
+use Rattle.page.specs.Form.{Point, Summary, root_bytes, times}
+use Rattle.page.specs.declared.fault.PageFault.{PageFault}
 use Rattle.page.specs.declared.fault.PageFault.TheVariants as fault
 use Rattle.page.specs.Fields.{RootFields}
 use Rattle.page.specs.Causes.{NotZero, AllZero, EntryCause, DataCause, DirectoryCause, HeadCause, Cause, low_off, high_off, crossed, no_points, too_many, point_off, data_not_zero, too_deep, low_wrong, high_wrong, directory_not_zero, root_wrong, head_not_zero, free_cause, data_cause, directory_cause, head_cause, root_entry_bytes}
@@ -120,3 +121,11 @@ pub field_or : {P X : Type 0} (k : Kind P) (page kind : ℕ) (bs : List ℕ) (R 
     → (o : Option X) → R o → Checked k page (kind ∷ []) bs (λ x. R (Some x)) (ok_or o (fault.Field page))
 field_or k page kind bs R is none None r = let w = none r in (refl, search rules, w.0, w.1)
 field_or k page kind bs R is none (Some x) r = (search rules, r)
+
+-- where nothing was read, the fault of a wrong field is passed on
+pub field_none : {P X Y : Type 0} (k : Kind P) (page : ℕ) (kinds bs : List ℕ) (Good : Y → Type 0) → 1 ≤ times (get_or bs 0 0) kinds → Senseless k bs × Cause k bs
+    → (o : Option X) → o ≡ None → (e : PageFault) → ◌≡◌ {A = Result X PageFault} (Err e) (ok_or o (fault.Field page)) → (r : Result Y PageFault) → r ≡ Err e → Checked k page kinds bs Good r
+field_none k page kinds bs Good l w o n e was r is =
+    let v : ◌≡◌ {A = Result _ PageFault} (Err e) (Err (fault.Field page)) = was ∙ ap (λ z. ok_or z (fault.Field page)) n in
+    let same : e ≡ fault.Field page = cc in
+    subst (Checked k page kinds bs Good) (sym (is ∙ ap Err same)) (refl, l, w.0, w.1)

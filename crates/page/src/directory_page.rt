@@ -33,13 +33,11 @@ impl<'a, K: PointKind> DirectoryView<'a, K> {
         if bytes[0] != K::DIRECTORY_PAGE {
             return Err(PageFault::Kind(page));
         }
-        match directory_fields::<K>(bytes) {
-            Some(_fork) => Ok(DirectoryView {
-                bytes,
-                points: PhantomData,
-            }),
-            None => Err(PageFault::Field(page)),
-        }
+        let _fork = directory_fields::<K>(bytes).ok_or(PageFault::Field(page))?;
+        Ok(DirectoryView {
+            bytes,
+            points: PhantomData,
+        })
     }
 
     // How many first bits all codes below the page share.

@@ -20,7 +20,7 @@ pub fn free_page<K: PointKind>(next: u16) -> [u8; 64]
     page
 }
 
-// A directory page: the depth, the low entry and the high entry.
+// A directory page: the depth, the low entry and the high entry. Not a fork, whose depth may be no byte.
 pub fn directory_page<K: PointKind>(depth: u8, low: &Entry<K>, high: &Entry<K>) -> [u8; 64]
     ensures { result ≡ encode K.PointKind.kind (directory_view depth (summary K.PointKind.kind low.now) (summary K.PointKind.kind high.now)) }
 {
@@ -68,7 +68,7 @@ fn put_bytes(page: &mut [u8; 64], at: usize, bytes: &[u8])
     page[at..end].copy_from_slice(bytes);
 }
 
-// A point behind the bytes before `at`.
+// A point behind the bytes before `at`. Its kind writes it where it stands, so there are no bytes to hand on.
 fn put_point<K: PointKind>(page: &mut [u8; 64], at: usize, point: &K)
     requires { at + size_of K.PointKind.kind ≤ 64 }
     ensures adds { Adds page.old at (bytes_of K.PointKind.kind point.now) page.new }

@@ -10,6 +10,7 @@ use std::alloc::AllocError;
 use std::marker::PhantomData;
 
 // An entry as a value: the page at which a part of the tree begins, how many points it has, and its corners.
+// That these lie on their axes is asked where it is needed: the encoder writes any entry, and would ask it too if it stood in the type.
 #[derive(Clone, Copy)]
 pub struct Entry<K> {
     pub page: u16,

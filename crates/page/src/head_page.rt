@@ -31,16 +31,11 @@ impl<'a, K: PointKind> HeadView<'a, K> {
     pub fn new(page: usize, bytes: &'a [u8; 64]) -> Result<HeadView<'a, K>, PageFault>
         ensures { Checked K.PointKind.kind page (K.PointKind.kind.head_kind ∷ []) bytes.now (λ v. (v.bytes.now ≡ bytes.now) × IsHead K.PointKind.kind bytes.now) result }
     {
-        if bytes[0] != K::HEAD_PAGE {
-            return Err(PageFault::Kind(page));
-        }
-        match head_fields::<K>(bytes) {
-            Some(_head) => Ok(HeadView {
-                bytes,
-                points: PhantomData,
-            }),
-            None => Err(PageFault::Field(page)),
-        }
+        let _head = read_head::<K>(page, bytes)?;
+        Ok(HeadView {
+            bytes,
+            points: PhantomData,
+        })
     }
 
     // The first free page, 0 if none.

@@ -7,7 +7,7 @@ use crate::directory_page::{Fork, directory_fields};
 use crate::fault::PageFault;
 use kinds::kind::PointKind;
 
-// A page of the tree: a data page, whose points stay on the page, or a directory page.
+// A page of the tree: a data page, whose points stay on the page, or a directory page. Neither is the lack of the other, as an `Option` of a fork would say.
 #[derive(Clone, Copy)]
 pub enum Node<K> {
     Data,
@@ -27,8 +27,6 @@ pub fn read_node<K: PointKind>(page: usize, bytes: &[u8; 64]) -> Result<Node<K>,
     if bytes[0] != K::DIRECTORY_PAGE {
         return Err(PageFault::Kind(page));
     }
-    match directory_fields::<K>(bytes) {
-        Some(fork) => Ok(Node::Directory(fork)),
-        None => Err(PageFault::Field(page)),
-    }
+    let fork = directory_fields::<K>(bytes).ok_or(PageFault::Field(page))?;
+    Ok(Node::Directory(fork))
 }

@@ -19,8 +19,8 @@ pub trait Coordinates: PointKind {
 impl Coordinates for LayPoint {
     fn span(axis: usize) -> Option<(i64, i64)> {
         match axis {
-            0 => Some((0, 65535)),
-            1 => Some((-2048, 2047)),
+            0 => Some((0, i64::from(u16::MAX))),
+            1 => Some((i64::from(Shog::LEAST), i64::from(Shog::GREATEST))),
             _ => None,
         }
     }
@@ -39,9 +39,9 @@ impl Coordinates for LayPoint {
 impl Coordinates for BarPoint {
     fn span(axis: usize) -> Option<(i64, i64)> {
         match axis {
-            0 => Some((0, 65535)),
-            1 => Some((0, 63)),
-            2 => Some((-2048, 2047)),
+            0 => Some((0, i64::from(u16::MAX))),
+            1 => Some((0, i64::from(BARS) - 1)),
+            2 => Some((i64::from(Shog::LEAST), i64::from(Shog::GREATEST))),
             _ => None,
         }
     }
