@@ -25,9 +25,7 @@ pub fn load<S: PageStore>(store: &mut S, page: usize) -> Result<[u8; 64], Refusa
     ensures keeps { S.PageStore.pages store.new ≡ S.PageStore.pages store.old }
 {
     let mut bytes = [0; 64];
-    store
-        .read(page, &mut bytes)
-        .map_err(|_| Refusal::Damaged)?;
+    store.read(page, &mut bytes).map_err(|_| Refusal::Damaged)?;
     Ok(bytes)
 }
 

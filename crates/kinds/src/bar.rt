@@ -12,7 +12,7 @@ use std::fmt;
 use zorder::weave::{Raised, weave};
 
 // The number of guide bars, 0 to 63.
-const BARS: u16 = 64;
+pub const BARS: u16 = 64;
 
 // A point of one guide bar: a course, the bar, and a shog in half needles.
 #[derive(Clone, Copy, PartialEq, Eq, Debug)]

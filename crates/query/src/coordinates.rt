@@ -1,9 +1,10 @@
 // Points by their coordinates, axis by axis.
 ghost use Rattle.query.specs.Queries.{SpanOf, PointOf};
 
-use kinds::bar::BarPoint;
+use kinds::bar::{BARS, BarPoint};
 use kinds::kind::PointKind;
 use kinds::lay::LayPoint;
+use needle::Shog;
 
 // A kind whose points can be made from their coordinates.
 pub trait Coordinates: PointKind {
