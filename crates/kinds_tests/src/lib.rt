@@ -1,12 +1,17 @@
 // Tests of the point kinds. The tables hold codes reckoned by another way: each raised value written out as a string of binary digits, from which the digits are taken in turns.
 #![tactic(auto)]
 
+ghost use Rattle.std.specs.Prelude.{◌≡◌, length};
+ghost use Rattle.kinds.specs.Kind.{size_of};
+
 #[cfg(test)]
 mod tests {
     use kinds::bar::BarPoint;
     use kinds::kind::PointKind;
     use kinds::lay::LayPoint;
     use kinds::points::{bit, corners, depth, inside, same};
+    use std::fmt::Debug;
+    use std::process::Abort;
     use std::test::Fail;
 
     // Course, shog, code and bytes: both ends of both axes, the middle, and some others.
@@ -43,18 +48,31 @@ mod tests {
         (40000, 42, 17, 15119684112, [64, 156, 42, 0, 17, 0]),
     ];
 
+    // A point has its code and its bytes, and is read back from them. `out` has room for them.
+    fn written<K: PointKind + PartialEq + Debug>(
+        rt: &impl Abort,
+        p: K,
+        code: u64,
+        bytes: &[u8],
+        out: &mut [u8],
+    ) -> Result<(), Fail>
+        requires room { length out.old ≡ size_of K.PointKind.kind }
+        requires long { length bytes.now ≡ size_of K.PointKind.kind }
+    {
+        if !p.on_axes() {
+            return Err(Fail::new("off its axes"));
+        }
+        assert_eq!(rt; p.code(), code);
+        p.write(out);
+        assert_eq!(rt; &*out, bytes);
+        assert_eq!(rt; K::read(bytes), Some(p));
+        Ok(())
+    }
+
     #[test]
     fn lay_points(rt: HostRuntime) -> Result<(), Fail> {
         for (course, shog, code, bytes) in LAY {
-            let p = LayPoint { course, shog };
-            if !p.on_axes() {
-                return Err(Fail::new("off its axes"));
-            }
-            assert_eq!(rt; p.code(), code);
-            let mut out = [7; 4];
-            p.write(&mut out);
-            assert_eq!(rt; out, bytes);
-            assert_eq!(rt; LayPoint::read(&bytes), Some(p));
+            written(&rt, LayPoint { course, shog }, code, &bytes, &mut [7; 4])?;
         }
         Ok(())
     }
@@ -62,15 +80,13 @@ mod tests {
     #[test]
     fn bar_points(rt: HostRuntime) -> Result<(), Fail> {
         for (course, bar, shog, code, bytes) in BAR {
-            let p = BarPoint { course, bar, shog };
-            if !p.on_axes() {
-                return Err(Fail::new("off its axes"));
-            }
-            assert_eq!(rt; p.code(), code);
-            let mut out = [7; 6];
-            p.write(&mut out);
-            assert_eq!(rt; out, bytes);
-            assert_eq!(rt; BarPoint::read(&bytes), Some(p));
+            written(
+                &rt,
+                BarPoint { course, bar, shog },
+                code,
+                &bytes,
+                &mut [7; 6],
+            )?;
         }
         Ok(())
     }

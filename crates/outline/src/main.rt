@@ -8,6 +8,7 @@ use kinds::kind::PointKind;
 use kinds::lay::LayPoint;
 use std::alloc::{AllocError, Global};
 use std::io::{Read, Write};
+use std::str::FromStr;
 use std::{env, io};
 use store::{PageStore, RowStore};
 
@@ -61,6 +62,23 @@ enum Form {
     Tree,
 }
 
+// A word that names no form.
+#[derive(Clone, Copy)]
+struct Unnamed;
+
+impl FromStr for Form {
+    type Err = Unnamed;
+
+    // The bytes have no word of their own.
+    fn from_str(word: &str) -> Result<Form, Unnamed> {
+        match word {
+            "hex" => Ok(Form::Hex),
+            "tree" => Ok(Form::Tree),
+            _ => Err(Unnamed),
+        }
+    }
+}
+
 // Writes an outline.
 fn write_out(rt: &HostRuntime, form: Form, bytes: &[u8]) -> io::Result<()> {
     match form {
@@ -75,17 +93,12 @@ fn write_out(rt: &HostRuntime, form: Form, bytes: &[u8]) -> io::Result<()> {
     }
 }
 
-// The form that an argument names.
+// The form that the last argument to name one names, and else the bytes.
 fn form_of(rt: &HostRuntime) -> io::Result<Form> {
-    let mut form = Form::Bytes;
-    for word in env::args(rt)?.skip(1) {
-        match word.as_str() {
-            "hex" => form = Form::Hex,
-            "tree" => form = Form::Tree,
-            _ => {}
-        }
-    }
-    Ok(form)
+    let named = env::args(rt)?
+        .skip(1)
+        .filter_map(|word| word.as_str().parse::<Form>().ok());
+    Ok(named.last().unwrap_or(Form::Bytes))
 }
 
 fn main(rt: HostRuntime) -> io::Result<()> {

@@ -13,12 +13,19 @@ enum Sort {
     Directory,
 }
 
-impl From<u8> for Sort {
-    // A record says it by its first byte: 2 for a directory page.
-    fn from(byte: u8) -> Sort {
+// A first byte that no record has.
+#[derive(Clone, Copy)]
+struct NoSort;
+
+impl TryFrom<u8> for Sort {
+    type Error = NoSort;
+
+    // A record says it by its first byte: 1 for a data page, 2 for a directory page.
+    fn try_from(byte: u8) -> Result<Sort, NoSort> {
         match byte {
-            2 => Sort::Directory,
-            _ => Sort::Data,
+            1 => Ok(Sort::Data),
+            2 => Ok(Sort::Directory),
+            _ => Err(NoSort),
         }
     }
 }
@@ -51,7 +58,7 @@ impl Record {
         }
         let (low, high) = corners.split_at(4);
         Some(Record {
-            sort: Sort::from(sort),
+            sort: Sort::try_from(sort).ok()?,
             points: u32::from_le_bytes([a, b, c, d]),
             shared,
             low: <LayPoint as PointKind>::read(low)?,

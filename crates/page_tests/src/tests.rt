@@ -13,6 +13,8 @@ use page::fault::PageFault;
 use page::free_page::next_free;
 use page::head_page::{Head, HeadView};
 use std::array;
+use std::fmt::Debug;
+use std::process::Abort;
 use std::test::Fail;
 
 fn lay(course: u16, shog: i16) -> LayPoint
@@ -44,103 +46,161 @@ fn full_bar() -> [BarPoint; 10] {
     )
 }
 
-#[test]
-fn lay_pages_are_written(rt: HostRuntime) {
-    assert_eq!(rt; free_page::<LayPoint>(0x1234), *FREE);
-    assert_eq!(rt; data_page(&LAY_POINTS), *LAY_DATA);
-    assert_eq!(rt; data_page(&full_lay()), *LAY_FULL);
-    let low = Entry {
-        page: 513,
-        count: 70_000,
-        low: lay(0, -2048),
-        high: lay(0, -1),
-    };
-    let high = Entry {
-        page: 2,
-        count: 16,
-        low: lay(0, 0),
-        high: lay(4660, 7),
-    };
-    assert_eq!(rt; directory_page(1, &low, &high), *LAY_DIRECTORY);
-    let empty: Head<LayPoint> = Head {
+// The corners of the low half, of the high half and of the root.
+fn lay_corners() -> [(LayPoint, LayPoint); 3] {
+    [
+        (lay(0, -2048), lay(0, -1)),
+        (lay(0, 0), lay(4660, 7)),
+        (lay(0, -2048), lay(65535, 2047)),
+    ]
+}
+
+fn bar_corners() -> [(BarPoint, BarPoint); 3] {
+    [
+        (bar(0, 0, -2048), bar(12, 5, -7)),
+        (bar(4660, 63, 0), bar(4660, 63, 0)),
+        (bar(0, 0, -2048), bar(65535, 63, 2047)),
+    ]
+}
+
+// An entry with these corners.
+fn entry<K: PointKind>(page: u16, count: u32, corners: (K, K)) -> Entry<K> {
+    let (low, high) = corners;
+    Entry {
+        page,
+        count,
+        low,
+        high,
+    }
+}
+
+// The pages that lead to others are written.
+fn entries_written<K: PointKind>(
+    rt: &impl Abort,
+    corners: [(K, K); 3],
+    directory: &[u8; 64],
+    empty_head: &[u8; 64],
+    head: &[u8; 64],
+) {
+    let [low, high, root] = corners;
+    let low = entry(513, 70_000, low);
+    let high = entry(2, 16, high);
+    assert_eq!(rt; directory_page(1, &low, &high), *directory);
+    let empty: Head<K> = Head {
         first: 1,
         free: 65_534,
         root: None,
     };
-    assert_eq!(rt; head_page(&empty), *LAY_EMPTY_HEAD);
-    let root = Entry {
-        page: 7,
-        count: 70_016,
-        low: lay(0, -2048),
-        high: lay(65535, 2047),
+    assert_eq!(rt; head_page(&empty), *empty_head);
+    let root = Some(entry(7, 70_016, root));
+    let full = Head {
+        first: 0,
+        free: 258,
+        root,
     };
-    assert_eq!(rt;
-        head_page(&Head {
-            first: 0,
-            free: 258,
-            root: Some(root),
-        },),
-        *LAY_HEAD
-    );
+    assert_eq!(rt; head_page(&full), *head);
 }
 
-#[test]
-fn lay_data_is_read(rt: HostRuntime) -> Result<(), Fail> {
-    assert_eq!(rt; next_free::<LayPoint>(9, FREE)?, 0x1234);
-    let view = DataView::<LayPoint>::new(9, LAY_DATA)?;
-    assert_eq!(rt; view.count(), 5);
-    for (place, point) in LAY_POINTS.iter().enumerate() {
+// A page of points and a full one are read; `other` is on neither.
+fn data_read<K: PointKind + PartialEq + Debug>(
+    rt: &impl Abort,
+    data: &[u8; 64],
+    points: &[K],
+    corners: (K, K),
+    other: K,
+    full: &[u8; 64],
+    full_points: &[K],
+) -> Result<(), Fail> {
+    assert_eq!(rt; next_free::<K>(9, FREE)?, 0x1234);
+    let view = DataView::<K>::new(9, data)?;
+    assert_eq!(rt; view.count(), points.len());
+    for (place, point) in points.iter().enumerate() {
         assert_eq!(rt; view.point(place), Some(*point));
         if !point.on_axes() {
             return Err(Fail::new("off its axes"));
         }
         assert!(rt; view.holds(point));
     }
-    assert_eq!(rt; view.point(5), None);
-    assert_eq!(rt; view.corners(), Some((lay(0, -2048), lay(65535, 2047))));
-    let other = lay(4661, 7);
+    assert_eq!(rt; view.point(points.len()), None);
+    assert_eq!(rt; view.corners(), Some(corners));
     if !other.on_axes() {
         return Err(Fail::new("off its axes"));
     }
     assert!(rt; !view.holds(&other));
-    let full = DataView::<LayPoint>::new(9, LAY_FULL)?;
-    for (place, point) in full_lay().iter().enumerate() {
-        assert_eq!(rt; full.point(place), Some(*point));
+    let view = DataView::<K>::new(9, full)?;
+    for (place, point) in full_points.iter().enumerate() {
+        assert_eq!(rt; view.point(place), Some(*point));
     }
-    assert_eq!(rt; full.point(15), None);
+    assert_eq!(rt; view.point(full_points.len()), None);
     Ok(())
 }
 
-#[test]
-fn lay_entries_are_read(rt: HostRuntime) -> Result<(), Fail> {
-    let view = DirectoryView::<LayPoint>::new(9, LAY_DIRECTORY)?;
+// The pages that lead to others are read.
+fn entries_read<K: PointKind + PartialEq + Debug>(
+    rt: &impl Abort,
+    corners: [(K, K); 3],
+    directory: &[u8; 64],
+    empty_head: &[u8; 64],
+    head: &[u8; 64],
+) -> Result<(), Fail> {
+    let [
+        (low_low, low_high),
+        (high_low, high_high),
+        (root_low, root_high),
+    ] = corners;
+    let view = DirectoryView::<K>::new(9, directory)?;
     assert_eq!(rt; view.depth(), 1);
     let low = view.low();
     assert_eq!(rt; low.page(), 513);
     assert_eq!(rt; low.count(), 70_000);
-    assert_eq!(rt; low.low(), Some(lay(0, -2048)));
-    assert_eq!(rt; low.high(), Some(lay(0, -1)));
+    assert_eq!(rt; low.low(), Some(low_low));
+    assert_eq!(rt; low.high(), Some(low_high));
     let high = view.high();
     assert_eq!(rt; high.page(), 2);
     assert_eq!(rt; high.count(), 16);
-    assert_eq!(rt; high.low(), Some(lay(0, 0)));
-    assert_eq!(rt; high.high(), Some(lay(4660, 7)));
-    let empty = HeadView::<LayPoint>::new(0, LAY_EMPTY_HEAD)?;
+    assert_eq!(rt; high.low(), Some(high_low));
+    assert_eq!(rt; high.high(), Some(high_high));
+    let empty = HeadView::<K>::new(0, empty_head)?;
     assert_eq!(rt; empty.first(), 1);
     assert_eq!(rt; empty.free(), 65_534);
     assert!(rt; empty.root().is_none());
-    let head = HeadView::<LayPoint>::new(0, LAY_HEAD)?;
+    let head = HeadView::<K>::new(0, head)?;
     assert_eq!(rt; head.first(), 0);
     assert_eq!(rt; head.free(), 258);
-    // written out, as a `Fail` may not be let go, which `ok_or` asks
-    let Some(root) = head.root() else {
-        return Err(Fail::new("no root"));
-    };
+    let root = head.root().ok_or("no root")?;
     assert_eq!(rt; root.page(), 7);
     assert_eq!(rt; root.count(), 70_016);
-    assert_eq!(rt; root.low(), Some(lay(0, -2048)));
-    assert_eq!(rt; root.high(), Some(lay(65535, 2047)));
+    assert_eq!(rt; root.low(), Some(root_low));
+    assert_eq!(rt; root.high(), Some(root_high));
     Ok(())
+}
+
+#[test]
+fn lay_pages_are_written(rt: HostRuntime) {
+    assert_eq!(rt; free_page::<LayPoint>(0x1234), *FREE);
+    assert_eq!(rt; data_page(&LAY_POINTS), *LAY_DATA);
+    assert_eq!(rt; data_page(&full_lay()), *LAY_FULL);
+    entries_written(&rt, lay_corners(), LAY_DIRECTORY, LAY_EMPTY_HEAD, LAY_HEAD);
+}
+
+#[test]
+fn lay_data_is_read(rt: HostRuntime) -> Result<(), Fail> {
+    let corners = (lay(0, -2048), lay(65535, 2047));
+    let full = full_lay();
+    data_read(
+        &rt,
+        LAY_DATA,
+        &LAY_POINTS,
+        corners,
+        lay(4661, 7),
+        LAY_FULL,
+        &full,
+    )
+}
+
+#[test]
+fn lay_entries_are_read(rt: HostRuntime) -> Result<(), Fail> {
+    entries_read(&rt, lay_corners(), LAY_DIRECTORY, LAY_EMPTY_HEAD, LAY_HEAD)
 }
 
 #[test]
@@ -148,101 +208,27 @@ fn bar_pages_are_written(rt: HostRuntime) {
     assert_eq!(rt; free_page::<BarPoint>(0x1234), *FREE);
     assert_eq!(rt; data_page(&BAR_POINTS), *BAR_DATA);
     assert_eq!(rt; data_page(&full_bar()), *BAR_FULL);
-    let low = Entry {
-        page: 513,
-        count: 70_000,
-        low: bar(0, 0, -2048),
-        high: bar(12, 5, -7),
-    };
-    let high = Entry {
-        page: 2,
-        count: 16,
-        low: bar(4660, 63, 0),
-        high: bar(4660, 63, 0),
-    };
-    assert_eq!(rt; directory_page(1, &low, &high), *BAR_DIRECTORY);
-    let empty: Head<BarPoint> = Head {
-        first: 1,
-        free: 65_534,
-        root: None,
-    };
-    assert_eq!(rt; head_page(&empty), *BAR_EMPTY_HEAD);
-    let root = Entry {
-        page: 7,
-        count: 70_016,
-        low: bar(0, 0, -2048),
-        high: bar(65535, 63, 2047),
-    };
-    assert_eq!(rt;
-        head_page(&Head {
-            first: 0,
-            free: 258,
-            root: Some(root),
-        },),
-        *BAR_HEAD
-    );
+    entries_written(&rt, bar_corners(), BAR_DIRECTORY, BAR_EMPTY_HEAD, BAR_HEAD);
 }
 
 #[test]
 fn bar_data_is_read(rt: HostRuntime) -> Result<(), Fail> {
-    assert_eq!(rt; next_free::<BarPoint>(9, FREE)?, 0x1234);
-    let view = DataView::<BarPoint>::new(9, BAR_DATA)?;
-    assert_eq!(rt; view.count(), 4);
-    for (place, point) in BAR_POINTS.iter().enumerate() {
-        assert_eq!(rt; view.point(place), Some(*point));
-        if !point.on_axes() {
-            return Err(Fail::new("off its axes"));
-        }
-        assert!(rt; view.holds(point));
-    }
-    assert_eq!(rt; view.point(4), None);
-    assert_eq!(rt;
-        view.corners(),
-        Some((bar(0, 0, -2048), bar(65535, 63, 2047)))
-    );
-    let other = bar(4661, 63, 0);
-    if !other.on_axes() {
-        return Err(Fail::new("off its axes"));
-    }
-    assert!(rt; !view.holds(&other));
-    let full = DataView::<BarPoint>::new(9, BAR_FULL)?;
-    for (place, point) in full_bar().iter().enumerate() {
-        assert_eq!(rt; full.point(place), Some(*point));
-    }
-    assert_eq!(rt; full.point(10), None);
-    Ok(())
+    let corners = (bar(0, 0, -2048), bar(65535, 63, 2047));
+    let full = full_bar();
+    data_read(
+        &rt,
+        BAR_DATA,
+        &BAR_POINTS,
+        corners,
+        bar(4661, 63, 0),
+        BAR_FULL,
+        &full,
+    )
 }
 
 #[test]
 fn bar_entries_are_read(rt: HostRuntime) -> Result<(), Fail> {
-    let view = DirectoryView::<BarPoint>::new(9, BAR_DIRECTORY)?;
-    assert_eq!(rt; view.depth(), 1);
-    let low = view.low();
-    assert_eq!(rt; low.page(), 513);
-    assert_eq!(rt; low.count(), 70_000);
-    assert_eq!(rt; low.low(), Some(bar(0, 0, -2048)));
-    assert_eq!(rt; low.high(), Some(bar(12, 5, -7)));
-    let high = view.high();
-    assert_eq!(rt; high.page(), 2);
-    assert_eq!(rt; high.count(), 16);
-    assert_eq!(rt; high.low(), Some(bar(4660, 63, 0)));
-    assert_eq!(rt; high.high(), Some(bar(4660, 63, 0)));
-    let empty = HeadView::<BarPoint>::new(0, BAR_EMPTY_HEAD)?;
-    assert_eq!(rt; empty.first(), 1);
-    assert_eq!(rt; empty.free(), 65_534);
-    assert!(rt; empty.root().is_none());
-    let head = HeadView::<BarPoint>::new(0, BAR_HEAD)?;
-    assert_eq!(rt; head.first(), 0);
-    assert_eq!(rt; head.free(), 258);
-    // written out, as a `Fail` may not be let go, which `ok_or` asks
-    let Some(root) = head.root() else {
-        return Err(Fail::new("no root"));
-    };
-    assert_eq!(rt; root.page(), 7);
-    assert_eq!(rt; root.count(), 70_016);
-    assert_eq!(rt; root.low(), Some(bar(0, 0, -2048)));
-    assert_eq!(rt; root.high(), Some(bar(65535, 63, 2047)));
-    Ok(())
+    entries_read(&rt, bar_corners(), BAR_DIRECTORY, BAR_EMPTY_HEAD, BAR_HEAD)
 }
 
 #[test]

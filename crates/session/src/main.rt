@@ -23,7 +23,7 @@ use spoken::{Kind, begun, call_of};
 // The card of a session.
 type Card = Watched<RowStore>;
 
-// The draft that was begun last.
+// The draft that was begun last. Which kind it is of is known only when the input is read, so that it is no parameter.
 #[derive(Drop)]
 enum Open {
     Lay(Draft<LayPoint, Card>),
@@ -167,7 +167,7 @@ fn make<K: Coordinates + Clone + fmt::Display>(
     show_reply(rt, reply, Traffic::of(draft.store()).since(before))
 }
 
-// What is wrong with a command where no draft was begun.
+// What is wrong with a command where no draft was begun. `call_of` names the commands too, but reads what follows as points of a kind, and here there is none.
 fn without_draft(words: &[&str]) -> Trouble {
     match words {
         ["put" | "take" | "ask" | "pick" | "count" | "list", ..] => Trouble::NoDraft,

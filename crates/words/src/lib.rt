@@ -113,11 +113,8 @@ mod tests {
         let input: &[u8] = b"put 1 2\r\n\n \xff \nlast";
         let mut texts = lines(rt.alloc(), input);
         for expected in ["put 1 2", "", "\u{FFFD}", "last"] {
-            // written out, as a `Fail` may not be let go, which `ok_or` asks
-            let Some(text) = texts.next() else {
-                return Err(Fail::new("the input ends early"));
-            };
-            assert_eq!(rt; text?.as_str(), expected);
+            let text = texts.next().ok_or("the input ends early")??;
+            assert_eq!(rt; text.as_str(), expected);
         }
         assert!(rt; texts.next().is_none());
         Ok(())
