@@ -132,11 +132,6 @@ pub(crate) fn data_fields<K: PointKind>(bytes: &[u8; 64]) -> bool
     if count < 1 || count > K::CAPACITY {
         return false;
     }
-    // by its place, since the bytes there may be no point's
-    for place in 0..count {
-        let Some(_point) = point_at::<K>(bytes, place) else {
-            return false;
-        };
-    }
-    zeros(&bytes[2 + count * K::SIZE..])
+    (0..count).all(|place| point_at::<K>(bytes, place).is_some())
+        && zeros(&bytes[2 + count * K::SIZE..])
 }
