@@ -70,13 +70,13 @@ impl<'a, K: PointKind> DataView<'a, K> {
         if count > K::CAPACITY {
             return None;
         }
-        let first = point_at::<K>(bytes, 0)?;
+        let mut parts = bytes[2..].chunks_exact(K::SIZE).take(count);
+        let first = K::read(parts.next()?)?;
         let mut low = first;
         let mut high = first;
         let mut last = first.code();
-        // by its place, since the bytes there may be no point's
-        for place in 1..count {
-            let point = point_at::<K>(bytes, place)?;
+        for part in parts {
+            let point = K::read(part)?;
             let code = point.code();
             if code <= last {
                 return None;
@@ -99,9 +99,8 @@ impl<'a, K: PointKind> DataView<'a, K> {
             return false;
         }
         let sought = p.code();
-        // by its place, since the bytes there may be no point's
-        for place in 0..count {
-            let Some(point) = point_at::<K>(bytes, place) else {
+        for part in bytes[2..].chunks_exact(K::SIZE).take(count) {
+            let Some(point) = K::read(part) else {
                 return false;
             };
             let code = point.code();
@@ -132,11 +131,6 @@ pub(crate) fn data_fields<K: PointKind>(bytes: &[u8; 64]) -> bool
     if count < 1 || count > K::CAPACITY {
         return false;
     }
-    // by its place, since the bytes there may be no point's
-    for place in 0..count {
-        let Some(_point) = point_at::<K>(bytes, place) else {
-            return false;
-        };
-    }
-    zeros(&bytes[2 + count * K::SIZE..])
+    (0..count).all(|place| point_at::<K>(bytes, place).is_some())
+        && zeros(&bytes[2 + count * K::SIZE..])
 }

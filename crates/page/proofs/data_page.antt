@@ -1,0 +1,2 @@
+-- The points of a data page as parts of its bytes.
+pub mod Chunks
