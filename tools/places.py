@@ -1,5 +1,5 @@
 #!/usr/bin/env python3
-"""Lists places in the crates' src/ that read like an older language, point by point.
+"""Lists places in the crates' src/ that another form might say more plainly, point by point.
 
     python3 tools/places.py [-v] [COMMIT]
 

@@ -8,7 +8,7 @@ ghost use Rattle.tree.specs.Lawful.{entry};
 use kinds::kind::PointKind;
 use page::entry::Entry;
 
-// The entry of a data page with one point.
+// The entry of a data page with one point. Not by way of a hand, whose points must lie on their axes: here any point is told.
 pub fn lone_entry<K: PointKind>(page: u16, p: &K) -> Entry<K>
     ensures { summary K.PointKind.kind result ≡ entry K.PointKind.kind (data_at page (p.now ∷ [])) }
 {
@@ -20,7 +20,7 @@ pub fn lone_entry<K: PointKind>(page: u16, p: &K) -> Entry<K>
     }
 }
 
-// A data page with one point, which the encoder cannot be lent: a slice of one point asks of every caller that points fit into memory.
+// A data page with one point, not by way of a hand either. The encoder cannot be lent one: a slice of one point asks of every caller that points fit into memory.
 pub fn lone_page<K: PointKind>(p: &K) -> [u8; 64]
     ensures { result ≡ encode K.PointKind.kind (data_view (K.PointKind.kind.coords p.now ∷ [])) }
 {

@@ -17,6 +17,7 @@ pub struct Hand<K: PointKind> {
     ghost on: { AllOn K.PointKind.kind count points } by { AllOn-prop K.PointKind.kind count points },
 }
 
+// By hand, as `Clone` cannot be derived for a struct with a ghost field.
 impl<K: PointKind> Clone for Hand<K> {
     ghost is_clone = { λ hand copy. copy ≡ hand };
 

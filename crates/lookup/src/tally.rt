@@ -17,6 +17,7 @@ pub fn tally<K: PointKind, S: PageStore>(store: &mut S) -> Result<Tally, Refusal
 {
     let head = load_head::<K, S>(store)?;
     let count = store.count();
+    // in 32 bits, as a tally tells them; an outline counts the same pages as places of a buffer
     let free_pages = u32::from(head.free);
     if count > 65535 || count <= usize::from(head.free) {
         return Err(Refusal::Damaged);

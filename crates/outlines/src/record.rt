@@ -27,7 +27,7 @@ impl From<Sort> for u8 {
     }
 }
 
-// Some bytes at a place. Promised in the words of a record, with the rest of the buffer kept, which no function for any slice has.
+// Some bytes at a place. One line of the library, under a promise in the words of a record, with the rest of the buffer kept.
 fn put_bytes(buffer: &mut [u8], at: usize, bytes: &[u8])
     requires { at + length bytes.now ≤ length buffer.old }
     ensures { Wrote buffer.old at bytes.now buffer.new }
@@ -36,7 +36,7 @@ fn put_bytes(buffer: &mut [u8], at: usize, bytes: &[u8])
     buffer[at..end].copy_from_slice(bytes);
 }
 
-// A point at a place.
+// A point at a place. Its kind writes it where it stands, so there are no bytes to hand on.
 fn put_point<K: PointKind>(buffer: &mut [u8], at: usize, point: &K)
     requires { at + size_of K.PointKind.kind ≤ length buffer.old }
     ensures wrote { Wrote buffer.old at (bytes_of K.PointKind.kind point.now) buffer.new }

@@ -59,7 +59,7 @@ pub fn data_page<K: PointKind>(points: &[K]) -> [u8; 64]
     page
 }
 
-// Some bytes behind those before `at`. Promised in the words of a page that is written from its front on, which no function for any slice has.
+// Some bytes behind those before `at`. One line of the library, under a promise in the words of a page that is written from its front on.
 fn put_bytes(page: &mut [u8; 64], at: usize, bytes: &[u8])
     requires { at + length bytes.now ≤ 64 }
     ensures { Adds page.old at bytes.now page.new }

@@ -1,4 +1,4 @@
-// Numbers in the bytes of a page, the lowest byte first: one function for each width, as `from_le_bytes` of `u16` and of `u32` are two functions without a trait.
+// Numbers in the bytes of a page, the lowest byte first: one function for each width. Bytes cut by one function for any width would leave each caller to turn them, as `from_le_bytes` of `u16` and of `u32` are two functions without a trait.
 ghost use Rattle.std.specs.Prelude.{◌≡◌, ℕ, ◌+◌, ◌^◌, ◌<◌, ◌≤◌, length, take, drop};
 ghost use Rattle.kinds.specs.Bytes.{bytes as bytes_of};
 

@@ -42,7 +42,7 @@ fn widen<K: PointKind>(page: u16, at: &Entry<K>, p: &K) -> Entry<K>
     }
 }
 
-// A directory page with an entry in the half of a bit, and another in the other half.
+// A directory page with an entry in the half of a bit, and another in the other half. A take needs the fork too, for the entry above.
 fn fork_page<K: PointKind>(depth: u32, bit: u64, own: &Entry<K>, other: &Entry<K>) -> [u8; 64]
     requires { depth < wide K.PointKind.kind }
     ensures { result ≡ encode K.PointKind.kind (directory_view depth (chosen bit (summary K.PointKind.kind own.now) (summary K.PointKind.kind other.now)) (chosen bit (summary K.PointKind.kind other.now) (summary K.PointKind.kind own.now))) }

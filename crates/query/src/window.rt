@@ -35,6 +35,7 @@ impl<K: PointKind> Window<K> {
         inside(p, &self.low, &self.high)
     }
 
+    // The corners here and below are those of an entry, which may be crossed on a damaged card and so are no window.
     // Whether the window meets that of two corners: neither ends before the other begins, on any axis.
     pub fn meets(&self, low: &K, high: &K) -> bool
         ensures { Whether result (Under (K.PointKind.kind.coords self.now.low) (K.PointKind.kind.coords high.now) × Under (K.PointKind.kind.coords low.now) (K.PointKind.kind.coords self.now.high)) }

@@ -34,7 +34,7 @@ fn gather_page<K: PointKind, G: Gather<K>>(
     ensures same { G.Gather.passes gather.new ≡ G.Gather.passes gather.old }
 {
     let view = DataView::<K>::over(bytes);
-    // by its place, since a place of a damaged page may have no point
+    // by its place, as a view answers for one place: an iterator over its points would be one more type with its laws, for two loops
     for i in 0..view.count() {
         let p = view.point(i).ok_or(Refusal::Damaged)?;
         if window.corners.holds(&p) {

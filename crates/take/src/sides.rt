@@ -10,7 +10,7 @@ use kinds::kind::PointKind;
 use page::directory_page::Fork;
 use page::entry::Entry;
 
-// The points of the half of a bit and those of the other half, in rising code.
+// The points of the half of a bit and those of the other half, in rising code. One choice by a bit, as of entries in two other places: a function for all three would have a body no shorter than each.
 pub(crate) fn in_order<K: PointKind>(bit: u64, own: &Hand<K>, other: &Hand<K>) -> Hand<K>
     requires { length (listed own.now) + length (listed other.now) ≤ 16 }
     ensures { listed result ≡ chosen bit (listed own.now ++ listed other.now) (listed other.now ++ listed own.now) }

@@ -1,7 +1,7 @@
 // What a take leaves of a part of the tree.
 use page::entry::Entry;
 
-// The two pages of a directory page that is no more needed: its own, and that of the half that is gone.
+// The two pages of a directory page that is no longer needed: its own, and that of the half that is gone.
 #[derive(Clone, Copy)]
 pub(crate) struct FreedPages {
     pub(crate) fork: u16,

@@ -25,7 +25,7 @@ impl<K: PointKind> Hand<K> {
         let view = DataView::<K>::new(0, bytes).ok()?;
         let first = view.point(0)?;
         let mut hand = Hand::one(first);
-        // by its place, since a place of a damaged page may have no point
+        // by its place, as a view answers for one place: an iterator over its points would be one more type with its laws, for two loops
         for i in 1..view.count() {
             let point = view.point(i)?;
             hand.push(point);
@@ -52,6 +52,7 @@ impl<K: PointKind> Hand<K> {
     }
 
     // Whether a point is among them. All are asked: on a damaged page the codes may not rise, so the search of a page's view by code may miss one.
+    // A closure for `any` would need two clauses, as `code` asks that its point lies on its axes.
     pub fn holds(&self, p: &K) -> bool
         requires on { On K.PointKind.kind p.now }
         ensures { result ≡ live (code_of K.PointKind.kind) p.now (listed self.now) }
@@ -236,7 +237,7 @@ impl<K: PointKind> Hand<K> {
         ensures splits { with_point (code_of K.PointKind.kind) p.now (listed self.now) ≡ take result (listed self.now) ++ (p.now ∷ drop result (listed self.now)) }
     {
         let code = p.code();
-        // by place, since the place is the answer
+        // by place: a closure for `position` would need two clauses, as `code` asks that its point lies on its axes
         for i in 0..self.count {
             let point = self.point(i);
             if code < point.code() {

@@ -27,5 +27,5 @@ returns g c =
     let k = g.K.PointKind.kind in
     let s = g.met.K.PointKind.sound in (
       zeros_agree (wide k) _ _ c.args.fork.now.depth (code_of_lt k s c.args.fork.now.low.low c.requires.corner_on) (code_of_lt k s c.args.p.now c.requires.on) (omega (arith, c.depth.ensures.zeros, c.if-depth-fork.false)),
-      half_told (λ (e : Entry g.row.K.Denot). e.page) (wide k) c.args.fork.now.depth (code_of k c.args.p.now) c.args.fork.now.low c.args.fork.now.high c.sides.result.0 (c.sides.ensures.own ∙ ap (λ b. chosen b c.args.fork.now.low c.args.fork.now.high) c.bit.ensures),
+      half_told (λ (e : Entry g.row.K.Denot). e.page) (wide k) c.args.fork.now.depth (code_of k c.args.p.now) c.args.fork.now.low c.args.fork.now.high c.sides-own.result.0 (c.sides-own.ensures.own ∙ ap (λ b. chosen b c.args.fork.now.low c.args.fork.now.high) c.bit.ensures),
     )
