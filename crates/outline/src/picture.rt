@@ -6,7 +6,7 @@ use std::{fmt, io};
 // How many bytes a record of an outline of lay points has.
 pub const RECORD: usize = 14;
 
-// What a page of the tree is.
+// What a page of the tree is. The library only writes its number into a record and shows no type for it, so a reader has its own.
 #[derive(Clone, Copy, PartialEq, Eq)]
 enum Sort {
     Data,
