@@ -1,5 +1,5 @@
 -- The steps of the loops that weave a code.
-use Rattle.std.proofs.Common.{◌≡◌, ℕ, suc, pred, ◌+◌, ◌-◌, ◌*◌, ◌/◌, ◌%◌, ◌^◌, ◌<◌, ◌≤◌, List, [], ◌∷◌, ◌++◌, map, length, get_or, drop, sym, refl, ap, ◌∙◌, subst, ap₂, div-lt_iff_lt-mul, one-mul, sub-one, arith, pow_pos, pow_mono}
+use Rattle.std.proofs.Common.{◌≡◌, ℕ, zero, suc, pred, ◌+◌, ◌-◌, ◌*◌, ◌/◌, ◌%◌, ◌^◌, ◌<◌, ◌≤◌, List, [], ◌∷◌, ◌++◌, map, length, get_or, drop, sym, refl, ap, ◌∙◌, subst, ap₂, div-lt_iff_lt-mul, one-mul, sub-one, arith, pow_pos, pow_mono}
 use native.Mathlib.Nat.{sub-zero}
 use lib.Bits.{bit_and, and_mask}
 use lib.ListN.{length-map}
@@ -92,3 +92,18 @@ pub round_fits : (n r : ℕ) (ks vs : List ℕ) (m : ℕ) → r < n → length k
 round_fits n r ks vs m h same narrow few e =
     let p : 2 ^ total ks ≤ 2 ^ 60 = pow_mono few in
     omega (arith, digits_ge (digits m (turns (after r ks) vs)) (rounds (n - (r + 1)) (after (r + 1) ks) vs), round_more n r ks vs m h, e, woven_lt n ks vs same narrow, p)
+
+-- no round has a turn where no axis has a bit left
+turns_none : (m r : ℕ) → m ≤ r → (ks vs : List ℕ) → AllByRecursion (λ k. k ≤ m) ks → turns (after r ks) vs ≡ []
+turns_none m r le [] vs all = refl
+turns_none m r le (k ∷ ks) [] all = refl
+turns_none m r le (k ∷ ks) (v ∷ vs) all =
+    let h = all.0 in
+    let z : k - r ≡ 0 = omega arith in
+    ap (λ j. turn j v ++ turns (after r ks) vs) z ∙ turns_none m r le ks vs all.1
+
+pub rounds_none : (m : ℕ) (ks vs : List ℕ) → AllByRecursion (λ k. k ≤ m) ks → (n r : ℕ) → m ≤ r → rounds n (after r ks) vs ≡ []
+rounds_none m ks vs all zero r le = refl
+rounds_none m ks vs all (suc n) r le =
+    ap (λ xs. xs ++ rounds n (map pred (after r ks)) vs) (turns_none m r le ks vs all)
+    ∙ ap (λ xs. rounds n xs vs) (after_more r ks) ∙ rounds_none m ks vs all n (r + 1) (omega arith)
