@@ -32,8 +32,27 @@ pub fn number(word: &str) -> Option<i64>
 pub fn text(heap: Global, bytes: &[u8]) -> Result<String, AllocError>
     ensures { IfOk result (λ t. string_bytes t ≡ trim (utf8_lossy bytes.now)) }
 {
-    let whole = String::from_utf8_lossy(heap, bytes)?;
-    String::from_str(heap, whole.as_str().trim())
+    trimmed(heap, String::from_utf8_lossy(heap, bytes)?)
+}
+
+// A text without the blanks around it. It is copied only where there are some.
+fn trimmed(heap: Global, whole: String) -> Result<String, AllocError>
+    ensures { IfOk result (λ t. string_bytes t ≡ trim (string_bytes whole)) }
+{
+    let inner = whole.as_str().trim();
+    if inner.len() == whole.len() {
+        return Ok(whole);
+    }
+    String::from_str(heap, inner)
+}
+
+// The text of a line. Its bytes are given back to the heap before a copy is made.
+fn line_text(heap: Global, line: Vec<u8>) -> Result<String, AllocError>
+    ensures { IfOk result (λ t. string_bytes t ≡ trim (utf8_lossy line.items)) }
+{
+    let whole = String::from_utf8_lossy(heap, &line)?;
+    drop(line);
+    trimmed(heap, whole)
 }
 
 // The texts of the lines of an input, from the next one on.
@@ -64,7 +83,7 @@ impl<R: BufRead + Drop> Iterator for Texts<R> {
 
     fn next(&mut self) -> Option<io::Result<String>> {
         match self.pieces.next()? {
-            Ok(bytes) => Some(text(self.heap, &bytes).map_err(io::Error::from)),
+            Ok(line) => Some(line_text(self.heap, line).map_err(io::Error::from)),
             Err(error) => Some(Err(error)),
         }
     }
