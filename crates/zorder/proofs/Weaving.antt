@@ -1,5 +1,5 @@
 -- The steps of the loops that weave a code.
-use Rattle.std.proofs.Common.{◌≡◌, ℕ, zero, suc, pred, ◌+◌, ◌-◌, ◌*◌, ◌/◌, ◌%◌, ◌^◌, ◌<◌, ◌≤◌, List, [], ◌∷◌, ◌++◌, map, length, get_or, drop, sym, refl, ap, ◌∙◌, subst, ap₂, div-lt_iff_lt-mul, one-mul, sub-one, arith, pow_pos, pow_mono}
+use Rattle.std.proofs.Common.{◌≡◌, ℕ, suc, pred, ◌+◌, ◌-◌, ◌*◌, ◌/◌, ◌%◌, ◌^◌, ◌<◌, ◌≤◌, List, [], ◌∷◌, ◌++◌, map, length, get_or, drop, sym, refl, ap, ◌∙◌, subst, ap₂, div-lt_iff_lt-mul, one-mul, sub-one, arith, pow_pos, pow_mono}
 use native.Mathlib.Nat.{sub-zero}
 use lib.Bits.{bit_and, and_mask}
 use lib.ListN.{length-map}
@@ -7,7 +7,7 @@ use Rattle.std.proofs.lemmas.List.{drop_more, get_or-map, drop_all}
 use Rattle.std.specs.List.{AllByRecursion}
 use Rattle.zorder.proofs.Bitlists.{digits_div}
 use Rattle.zorder.proofs.Order.{Each, done, each, Any, rounds_bin}
-use Rattle.zorder.proofs.Mix.{most, rounds_length}
+use Rattle.zorder.proofs.Mix.{AtMost, most, rounds_length}
 use Rattle.zorder.specs.Code.{digits, turn, turns, rounds, after, total}
 
 pub digits_ge : (m : ℕ) (xs : List ℕ) → m ≤ digits m xs
@@ -93,17 +93,7 @@ round_fits n r ks vs m h same narrow few e =
     let p : 2 ^ total ks ≤ 2 ^ 60 = pow_mono few in
     omega (arith, digits_ge (digits m (turns (after r ks) vs)) (rounds (n - (r + 1)) (after (r + 1) ks) vs), round_more n r ks vs m h, e, woven_lt n ks vs same narrow, p)
 
--- no round has a turn where no axis has a bit left
-turns_none : (m r : ℕ) → m ≤ r → (ks vs : List ℕ) → AllByRecursion (λ k. k ≤ m) ks → turns (after r ks) vs ≡ []
-turns_none m r le [] vs all = refl
-turns_none m r le (k ∷ ks) [] all = refl
-turns_none m r le (k ∷ ks) (v ∷ vs) all =
-    let h = all.0 in
-    let z : k - r ≡ 0 = omega arith in
-    ap (λ j. turn j v ++ turns (after r ks) vs) z ∙ turns_none m r le ks vs all.1
-
-pub rounds_none : (m : ℕ) (ks vs : List ℕ) → AllByRecursion (λ k. k ≤ m) ks → (n r : ℕ) → m ≤ r → rounds n (after r ks) vs ≡ []
-rounds_none m ks vs all zero r le = refl
-rounds_none m ks vs all (suc n) r le =
-    ap (λ xs. xs ++ rounds n (map pred (after r ks)) vs) (turns_none m r le ks vs all)
-    ∙ ap (λ xs. rounds n xs vs) (after_more r ks) ∙ rounds_none m ks vs all n (r + 1) (omega arith)
+-- after as many rounds as the widest axis has bits, no axis has one left
+pub spent : (m r : ℕ) → m ≤ r → (ks : List ℕ) → AllByRecursion (λ k. k ≤ m) ks → AtMost 0 (after r ks)
+spent m r le [] all = tt
+spent m r le (k ∷ ks) all = let h = all.0 in (omega arith, spent m r le ks all.1)

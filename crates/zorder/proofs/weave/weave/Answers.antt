@@ -2,7 +2,8 @@ use Rattle.std.proofs.Common.{◌+◌, ◌-◌, sym, ap, ◌∙◌, arith}
 use Rattle.zorder.specs.Code.{digits, rounds, after, woven}
 use Rattle.zorder.specs.Raising.{widths_of, values_of}
 use Rattle.zorder.proofs.Points.{same}
-use Rattle.zorder.proofs.Weaving.{after_none, round_more, round_fits, rounds_none}
+use Rattle.zorder.proofs.Mix.{rounds_enough}
+use Rattle.zorder.proofs.Weaving.{after_none, round_more, round_fits, spent}
 use Rattle.zorder.proofs.weave.weave.Goals as goal
 
 pub round-code-requires : goal.round-code-requires
@@ -28,4 +29,5 @@ pub returns : goal.returns
 returns c =
     let ks = widths_of c.args.point.now in
     let r = c.loop-done.done in
-    sym (ap (digits c.loop-done.code) (rounds_none c.widest-done-end.result ks (values_of c.args.point.now) c.widest-done-end.ensures.all (32 - r) r (omega (arith, c.loop-done-test.false)))) ∙ c.loop-done.invariant
+    let none = spent c.widest-done-end.result r (omega (arith, c.loop-done-test.false)) ks c.widest-done-end.ensures.all in
+    sym (ap (digits c.loop-done.code) (rounds_enough 0 (32 - r) (after r ks) (values_of c.args.point.now) none (omega arith))) ∙ c.loop-done.invariant
