@@ -14,7 +14,7 @@ pub struct Hand<K> {
     ghost few: { count ≤ 16 },
 }
 
-// By hand, as `Clone` cannot be derived for a struct with a ghost field.
+// By hand, as `Clone` cannot be derived for a generic struct with a ghost field.
 impl<K: Copy> Clone for Hand<K> {
     ghost is_clone = { λ hand copy. copy ≡ hand };
 

@@ -61,7 +61,7 @@ impl<'a, K: PointKind> DataView<'a, K> {
         point_at::<K>(self.bytes, place)
     }
 
-    // Both corners of the points, by a loop over their codes; none where the codes do not strictly rise. The first place is always read, so bytes that claim no points have corners if a point stands there.
+    // Both corners of the points, by a loop over their codes; none where the codes do not strictly rise. The first place is read where the count is 0 too, so bytes that claim no points have corners if a point stands there.
     pub fn corners(&self) -> Option<(K, K)>
         ensures { (ps : List Point) → Reads K.PointKind.kind self.now.bytes.now (data_view ps) → Cornered K.PointKind.kind ps result }
     {
