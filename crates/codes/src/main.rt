@@ -12,6 +12,9 @@ use std::io::BufReader;
 use std::{fmt, io};
 use words::{lines, number};
 
+// One word more than any point has: no further one is read.
+const WORDS: usize = 4;
+
 // Why a line is not shown.
 #[derive(Drop)]
 enum Unshown {
@@ -97,7 +100,8 @@ fn main(rt: HostRuntime) -> io::Result<()> {
         let line = line?;
         let text = line.as_str();
         print!(rt; "line {count}: ")?;
-        let numbers: Option<Vec<i64>> = text.split_whitespace().map(number).collect(heap)?;
+        let words = text.split_whitespace().take(WORDS);
+        let numbers: Option<Vec<i64>> = words.map(number).collect(heap)?;
         let numbers = numbers.unwrap_or(Vec::new(heap));
         match show(&rt, &before, &numbers) {
             Ok(()) => {}

@@ -1,8 +1,9 @@
 -- The points of a data page.
 use Rattle.std.proofs.Common.{◌≡◌, Some, None, Ok, Result, ℕ, ◌+◌, ◌<◌, ◌≤◌, List, [], ◌∷◌, ◌++◌, map, length, get_or, take, Err, sym, refl, ap, ◌∙◌, subst, arith}
-use Rattle.std.proofs.ByRecursion.{All-get_or}
+use Rattle.std.specs.List.{AllByRecursion}
 use Rattle.std.proofs.lemmas.List.{length-map, length-take-le, map-append, take_all, take_more}
 use Rattle.std.specs.Result.{result_ok}
+use Rattle.zorder.proofs.Corners.{all_unmap}
 use Rattle.zorder.specs.Code.{OnAxes}
 use Rattle.kinds.specs.Kind.{Kind, Sound, On}
 use Rattle.page.specs.declared.fault.PageFault.{PageFault}
@@ -44,17 +45,13 @@ module _ {P : Type 0} (k : Kind P) (s : Sound k) (bs : List ℕ) where
       let b : map k.coords ps ≡ map k.coords qs = cc in
       ap (λ x. x ∷ ps) (s.one_point p q a) ∙ ap (λ xs. q ∷ xs) (same_points ps qs b)
 
-  -- the points of a data page: 1 to b
-  pub some_points : (ps : List P) (xs : List Point) → map k.coords ps ≡ xs → Reads k bs (data_view xs) → (1 ≤ length ps) × (length ps ≤ k.capacity)
-  some_points ps xs e r =
+  -- the points of a data page: 1 to b, on their axes
+  pub sane_points : (ps : List P) (xs : List Point) → map k.coords ps ≡ xs → Reads k bs (data_view xs) → (1 ≤ length ps) × (length ps ≤ k.capacity) × AllByRecursion (On k) ps
+  sane_points ps xs e r =
       let n : length ps ≡ length xs = sym (length-map ps k.coords) ∙ ap length e in
       let a = r.fields.some in
       let b = r.fields.fit in
-      (omega arith, omega arith)
-
--- a point of a data page is on its axes
-pub point_on : {P : Type 0} (k : Kind P) (bs : List ℕ) (xs : List Point) (i : ℕ) (p : P) → Reads k bs (data_view xs) → i < length xs → k.coords p ≡ get_or xs i [] → On k p
-point_on k bs xs i p r lt e = subst (OnAxes k.axes) (sym e) (All-get_or (OnAxes k.axes) xs i [] lt r.fields.on_axes)
+      (omega arith, omega arith, all_unmap (OnAxes k.axes) k.coords ps (subst (AllByRecursion (OnAxes k.axes)) (sym e) r.fields.on_axes))
 
 -- a result that was turned into an option
 pub came : {X E : Type 0} (r : Result X E) (x : X) → Some x ≡ result_ok r → r ≡ Ok x

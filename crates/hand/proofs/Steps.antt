@@ -2,40 +2,36 @@
 use Rattle.std.proofs.Common.{◌≡◌, ℕ, ◌+◌, ◌<◌, ◌≤◌, Bool, true, false, eqb, ltb, List, [], ◌∷◌, ◌++◌, length, get_or, take, drop, filter, sym, ap, ◌∙◌, subst, arith}
 use Rattle.std.specs.List.{AllByRecursion}
 use Rattle.std.proofs.lemmas.List.{length-take-le, drop_more, drop_all, take_more, append-nil, append_assoc}
-use Rattle.std.proofs.ByRecursion.{All-get_or, All-drop}
+use Rattle.std.proofs.ByRecursion.{All-get_or}
 use Rattle.std.proofs.lemmas.Bool.{eq-eqb, ne_eqb, lt-ltb, le-ltb, cond-true, cond-false}
-use Rattle.kinds.specs.Kind.{On}
-use Rattle.kinds.specs.declared.kind.PointKind.{Ghosts}
 use Rattle.tree.specs.Sets.{live, with_point}
 use Rattle.hand.specs.declared.points.Hand.{Hand}
-use Rattle.hand.specs.declared.points.iter.Points.{Points}
 use Rattle.hand.specs.Places.{sixteen}
-use Rattle.hand.specs.Hands.{listed, left}
+use Rattle.hand.specs.Hands.{listed}
 use Rattle.hand.proofs.Sixteen.{sixteen_long}
 
-module _ {P : Type 0} {g : Ghosts P} where
-  pub count_is : (h : Hand P g) → length (listed h) ≡ h.count
+module _ {P : Type 0} where
+  pub count_is : (h : Hand P) → length (listed h) ≡ h.count
   count_is h = let f = h.few in let n = sixteen_long h.points in length-take-le h.count (sixteen h.points) (omega arith)
 
-  -- a point in the hand is on its axes
-  pub item_on : (h : Hand P g) (i : ℕ) (x : P) → i < h.count → x ≡ get_or (listed h) i x → On g.kind x
-  item_on h i x lt e = let n = count_is h in subst (On g.kind) (sym e) (All-get_or (On g.kind) (listed h) i x (omega arith) h.on)
-
-  -- and so is the next one of those that are left
-  pub next_on : (s : Points P g) (x : P) (rest : List P) → left s ≡ x ∷ rest → On g.kind x
-  next_on s x rest e = (subst (AllByRecursion (On g.kind)) e (All-drop (On g.kind) s.next (listed s.hand.now) s.hand.now.on)).0
+  -- what holds of all points in the hand holds of each
+  pub item_has : (Q : P → Type 0) (h : Hand P) (i : ℕ) (x : P) → i < h.count → x ≡ get_or (listed h) i x → AllByRecursion Q (listed h) → Q x
+  item_has Q h i x lt e all = let n = count_is h in subst Q (sym e) (All-get_or Q (listed h) i x (omega arith) all)
 
   -- what is left: the point at the place, and what comes behind it
-  pub left_is : (h : Hand P g) (i : ℕ) (x : P) → i < h.count → x ≡ get_or (listed h) i x → drop i (listed h) ≡ x ∷ drop (i + 1) (listed h)
+  pub left_is : (h : Hand P) (i : ℕ) (x : P) → i < h.count → x ≡ get_or (listed h) i x → drop i (listed h) ≡ x ∷ drop (i + 1) (listed h)
   left_is h i x lt e = let n = count_is h in drop_more (listed h) i x (omega arith) ∙ ap (λ y. y ∷ drop (i + 1) (listed h)) (sym e)
 
-  pub front_is : (h : Hand P g) (i : ℕ) (x : P) → i < h.count → x ≡ get_or (listed h) i x → take (i + 1) (listed h) ≡ take i (listed h) ++ x ∷ []
+  pub front_is : (h : Hand P) (i : ℕ) (x : P) → i < h.count → x ≡ get_or (listed h) i x → take (i + 1) (listed h) ≡ take i (listed h) ++ x ∷ []
   front_is h i x lt e = let n = count_is h in take_more (listed h) i x (omega arith) ∙ ap (λ y. take i (listed h) ++ y ∷ []) (sym e)
 
-  pub none_left : (h : Hand P g) (i : ℕ) → h.count ≤ i → drop i (listed h) ≡ []
+  pub none_left : (h : Hand P) (i : ℕ) → h.count ≤ i → drop i (listed h) ≡ []
   none_left h i le = let n = count_is h in drop_all i (listed h) (omega arith)
 
-module _ {P : Type 0} where
+  -- what holds of all that is left holds of the next point, and of what is left then
+  pub next_has : (Q : P → Type 0) (all rest : List P) (x : P) → all ≡ x ∷ rest → AllByRecursion Q all → Q x × AllByRecursion Q rest
+  next_has Q all rest x e has = subst (AllByRecursion Q) e has
+
   -- one more point behind the others
   pub behind : (front new all rest : List P) (x : P) → front ++ (x ∷ rest) ≡ all → new ≡ front ++ x ∷ [] → new ++ rest ≡ all
   behind front new all rest x e n = ap (λ y. y ++ rest) n ∙ append_assoc front (x ∷ []) rest ∙ e

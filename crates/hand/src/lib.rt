@@ -4,3 +4,5 @@
 pub mod lone;
 mod places;
 pub mod points;
+#[cfg(test)]
+mod tests;

@@ -8,7 +8,7 @@ ghost use Rattle.tree.specs.Lawful.{entry};
 use kinds::kind::PointKind;
 use page::entry::Entry;
 
-// The entry of a data page with one point. Not by way of a hand, whose points must lie on their axes: here any point is told.
+// The entry of a data page with one point. Not by way of a hand: one point needs no sixteen places and no search for its corners.
 pub fn lone_entry<K: PointKind>(page: u16, p: &K) -> Entry<K>
     ensures { summary K.PointKind.kind result ≡ entry K.PointKind.kind (data_at page (p.now ∷ [])) }
 {

@@ -1,24 +1,21 @@
 // What the hand holds.
 ghost use Rattle.std.specs.Prelude.{◌≡◌, ◌≤◌, ⊤};
-ghost use Rattle.hand.specs.Places.{AllOn, AllOn-prop};
 
 use crate::places::Four;
-use kinds::kind::PointKind;
 use std::alloc::AllocError;
 
 mod calls;
 mod iter;
 
-// Some points on their axes in the hand: at most one more than a data page has room for.
-pub struct Hand<K: PointKind> {
+// Some points in the hand: at most one more than a data page has room for. What asks for their codes says that they lie on their axes.
+pub struct Hand<K> {
     points: Four<Four<K>>,
     count: usize,
     ghost few: { count ≤ 16 },
-    ghost on: { AllOn K.PointKind.kind count points } by { AllOn-prop K.PointKind.kind count points },
 }
 
-// By hand, as `Clone` cannot be derived for a struct with a ghost field.
-impl<K: PointKind> Clone for Hand<K> {
+// By hand, as `Clone` cannot be derived for a generic struct with a ghost field.
+impl<K: Copy> Clone for Hand<K> {
     ghost is_clone = { λ hand copy. copy ≡ hand };
 
     ghost is_infallible = { λ _. ⊤ };
@@ -28,4 +25,4 @@ impl<K: PointKind> Clone for Hand<K> {
     }
 }
 
-impl<K: PointKind> Copy for Hand<K> {}
+impl<K: Copy> Copy for Hand<K> {}

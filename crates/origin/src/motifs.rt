@@ -25,7 +25,10 @@ pub fn first_refused(origin: &mut Origin, other: Origin, points: &[LayPoint]) ->
     ensures first { FirstSays other points.now result }
 {
     let temporary = Temporary::set(origin, other);
-    points
-        .iter()
-        .position(|point| temporary.place(*point).is_err())
+    for (i, point) in points.iter().enumerate() {
+        if temporary.place(*point).is_err() {
+            return Some(i);
+        }
+    }
+    None
 }

@@ -161,10 +161,10 @@ end_page n cap s r le e fit =
     let b : n * s ≤ cap * s = mul-le-mul_right s le in
     omega arith
 
-pub tail_cut : (bs : List ℕ) (n r s : ℕ) → length bs ≡ 64 → r ≡ s → take (64 - (2 + n * r)) (drop (2 + n * r) bs) ≡ drop (n * s) (drop 2 bs)
-tail_cut bs n r s whole e =
+pub tail_cut : (bs : List ℕ) (n r s : ℕ) {long : ℕ} → length bs ≡ long → r ≡ s → take (long - (2 + n * r)) (drop (2 + n * r) bs) ≡ drop (n * s) (drop 2 bs)
+tail_cut bs n r s {long} whole e =
     let l = length-drop (2 + n * r) bs in
-    take_all (64 - (2 + n * r)) (drop (2 + n * r) bs) (omega arith) ∙ ap (λ x. drop (2 + n * x) bs) e ∙ drop_plus 2 (n * s) bs
+    take_all (long - (2 + n * r)) (drop (2 + n * r) bs) (omega arith) ∙ ap (λ x. drop (2 + n * x) bs) e ∙ drop_plus 2 (n * s) bs
 
 pub tail_length : (bs : List ℕ) (n s : ℕ) → length (drop (n * s) (drop 2 bs)) ≡ length bs - (2 + n * s)
 tail_length bs n s = ap length (sym (drop_plus 2 (n * s) bs)) ∙ length-drop (2 + n * s) bs

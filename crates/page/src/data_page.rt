@@ -61,7 +61,7 @@ impl<'a, K: PointKind> DataView<'a, K> {
         point_at::<K>(self.bytes, place)
     }
 
-    // Both corners of the points, by a loop over their codes; none where the codes do not strictly rise.
+    // Both corners of the points, by a loop over their codes; none where the codes do not strictly rise. The first place is read where the count is 0 too, so bytes that claim no points have corners if a point stands there.
     pub fn corners(&self) -> Option<(K, K)>
         ensures { (ps : List Point) → Reads K.PointKind.kind self.now.bytes.now (data_view ps) → Cornered K.PointKind.kind ps result }
     {
@@ -70,12 +70,12 @@ impl<'a, K: PointKind> DataView<'a, K> {
         if count > K::CAPACITY {
             return None;
         }
-        let mut parts = bytes[2..].chunks_exact(K::SIZE).take(count);
+        let mut parts = bytes[2..].chunks_exact(K::SIZE);
         let first = K::read(parts.next()?)?;
         let mut low = first;
         let mut high = first;
         let mut last = first.code();
-        for part in parts {
+        for part in parts.take(count.saturating_sub(1)) {
             let point = K::read(part)?;
             let code = point.code();
             if code <= last {

@@ -51,6 +51,7 @@ impl<'a, K: PointKind> DirectoryView<'a, K> {
     // The low entry.
     pub fn low(&self) -> EntryView<'a, K>
         ensures part { result.bytes.now ≡ take (entry_length K.PointKind.kind) (drop 2 self.now.bytes.now) }
+        ensures whole { length result.bytes.now ≡ entry_length K.PointKind.kind }
         ensures view { InDirectory K.PointKind.kind self.now.bytes.now (λ n l h. result.bytes.now ≡ entry_bytes K.PointKind.kind l) }
     {
         let bytes = self.bytes;
@@ -61,6 +62,7 @@ impl<'a, K: PointKind> DirectoryView<'a, K> {
     // The high entry.
     pub fn high(&self) -> EntryView<'a, K>
         ensures part { result.bytes.now ≡ take (entry_length K.PointKind.kind) (drop (2 + entry_length K.PointKind.kind) self.now.bytes.now) }
+        ensures whole { length result.bytes.now ≡ entry_length K.PointKind.kind }
         ensures view { InDirectory K.PointKind.kind self.now.bytes.now (λ n l h. result.bytes.now ≡ entry_bytes K.PointKind.kind h) }
     {
         let bytes = self.bytes;

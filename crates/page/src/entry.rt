@@ -33,7 +33,7 @@ pub struct EntryView<'a, K: PointKind> {
     ghost long: { length bytes.now ≡ entry_length K.PointKind.kind },
 }
 
-// By hand, as `Clone` cannot be derived for a struct with a ghost field.
+// By hand, as `Clone` cannot be derived for a generic struct with a ghost field.
 impl<'a, K: PointKind> Clone for EntryView<'a, K> {
     ghost is_clone = { λ view copy. copy ≡ view };
 

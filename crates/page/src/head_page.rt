@@ -61,6 +61,7 @@ impl<'a, K: PointKind> HeadView<'a, K> {
     // The root entry, none where it is all zero bytes.
     pub fn root(&self) -> Option<EntryView<'a, K>>
         ensures part { RootShown (take (entry_length K.PointKind.kind) (drop 5 self.now.bytes.now)) (λ v. v.bytes.now) result }
+        ensures whole { IfSome result (λ v. length v.bytes.now ≡ entry_length K.PointKind.kind) }
         ensures view { InHead K.PointKind.kind self.now.bytes.now (λ first free root. RootIs K.PointKind.kind (λ v. v.bytes.now) root result) }
     {
         let bytes = self.bytes;

@@ -198,6 +198,17 @@ fn lay_data_is_read(rt: HostRuntime) -> Result<(), Fail> {
     )
 }
 
+// Zero bytes claim no points. Their first place is that of a point on its axes all the same, and the view tells it.
+#[test]
+fn first_place_of_bytes_without_points(rt: HostRuntime) {
+    let view = DataView::<LayPoint>::over(&[0; 64]);
+    assert_eq!(rt; view.count(), 0);
+    assert_eq!(rt; view.point(0), None);
+    assert_eq!(rt; view.corners(), Some((lay(0, 0), lay(0, 0))));
+    let view = DataView::<BarPoint>::over(&[0; 64]);
+    assert_eq!(rt; view.corners(), Some((bar(0, 0, 0), bar(0, 0, 0))));
+}
+
 #[test]
 fn lay_entries_are_read(rt: HostRuntime) -> Result<(), Fail> {
     entries_read(&rt, lay_corners(), LAY_DIRECTORY, LAY_EMPTY_HEAD, LAY_HEAD)

@@ -59,6 +59,7 @@ fn split<K: PointKind, S: PageStore>(
     page: u16,
     spare: Spare,
 ) -> Grown<K>
+    requires on { AllByRecursion (On K.PointKind.kind) (listed points.now) }
     requires few { length (listed points.now) ≤ K.PointKind.kind.capacity + 1 }
     requires some { 1 ≤ length (listed points.now) }
     requires mixed { Mixed K.PointKind.kind (listed points.now) }
@@ -90,6 +91,7 @@ fn put_here<K: PointKind, S: PageStore>(
     spare: Option<Spare>,
 ) -> Result<Grown<K>, Refusal>
     requires on { On K.PointKind.kind p.now }
+    requires all_on { AllByRecursion (On K.PointKind.kind) (listed points.now) }
     requires few { length (listed points.now) ≤ K.PointKind.kind.capacity }
     requires there { at.now.page < length (S.PageStore.pages store.old) }
     requires spare_there { AllByRecursion (λ q. q < length (S.PageStore.pages store.old)) (spares spare) }

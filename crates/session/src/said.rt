@@ -1,4 +1,8 @@
 // The words of a command as numbers, points and windows.
+ghost use Rattle.std.specs.Prelude.{◌≡◌, IfErr};
+ghost use Rattle.session.specs.declared.said.Unsaid.TheVariants.{Refused, Unreadable, OutOfMemory};
+ghost use Rattle.session.specs.Said.{OffAxisAlone};
+
 use query::choice::{Choice, window};
 use query::coordinates::Coordinates;
 use query::window::Window;
@@ -17,18 +21,24 @@ pub enum Unsaid {
 }
 
 impl From<Refusal> for Unsaid {
+    ghost from_gives = { λ x y. y ≡ Refused x };
+
     fn from(why: Refusal) -> Unsaid {
         Unsaid::Refused(why)
     }
 }
 
 impl From<Trouble> for Unsaid {
+    ghost from_gives = { λ x y. y ≡ Unreadable x };
+
     fn from(why: Trouble) -> Unsaid {
         Unsaid::Unreadable(why)
     }
 }
 
 impl From<AllocError> for Unsaid {
+    ghost from_gives = { λ x y. y ≡ OutOfMemory x };
+
     fn from(error: AllocError) -> Unsaid {
         Unsaid::OutOfMemory(error)
     }
@@ -88,8 +98,10 @@ fn choice(word: &str) -> Option<Choice> {
     }
 }
 
-// The window of a query: a word for each axis.
-pub fn window_of<K: Coordinates>(heap: Global, words: &[&str]) -> Result<Window<K>, Unsaid> {
+// The window of a query: a word for each axis. Refused only where a number is off its axis.
+pub fn window_of<K: Coordinates>(heap: Global, words: &[&str]) -> Result<Window<K>, Unsaid>
+    ensures { IfErr result OffAxisAlone }
+{
     if words.len() > MOST_CHOICES || K::span(words.len()).is_some() {
         return Err(Unsaid::Unreadable(Trouble::Window));
     }
@@ -104,8 +116,10 @@ fn one_for_each_axis<K: Coordinates>(words: &[&str]) -> bool {
     (0..count).all(|axis| K::span(axis).is_some()) && K::span(count).is_none()
 }
 
-// The point of a kind: a word for each axis, as `COURSE SHOG`.
-pub fn point_of<K: Coordinates>(heap: Global, words: &[&str]) -> Result<K, Unsaid> {
+// The point of a kind: a word for each axis, as `COURSE SHOG`. Refused only where a number is off its axis.
+pub fn point_of<K: Coordinates>(heap: Global, words: &[&str]) -> Result<K, Unsaid>
+    ensures { IfErr result OffAxisAlone }
+{
     if !one_for_each_axis::<K>(words) {
         return Err(Unsaid::Unreadable(Trouble::Point));
     }

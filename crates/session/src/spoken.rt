@@ -1,4 +1,7 @@
 // Calls in words.
+ghost use Rattle.std.specs.Prelude.{IfErr};
+ghost use Rattle.session.specs.Said.{OffAxisAlone};
+
 use crate::said::{Trouble, Unsaid, amount, page_count, point_of, window_of};
 use draft::calls::Call;
 use query::coordinates::Coordinates;
@@ -39,7 +42,9 @@ const MOST_PLACES: usize = 1000;
 const MOST_BYTES: usize = 1000000;
 
 // `list SKIP PLACES`, and a window.
-fn list_call<K: Coordinates + Clone>(heap: Global, words: &[&str]) -> Result<Call<K>, Unsaid> {
+fn list_call<K: Coordinates + Clone>(heap: Global, words: &[&str]) -> Result<Call<K>, Unsaid>
+    ensures { IfErr result OffAxisAlone }
+{
     let [skip, places, window @ ..] = words else {
         return Err(Unsaid::Unreadable(Trouble::List));
     };
@@ -51,7 +56,9 @@ fn list_call<K: Coordinates + Clone>(heap: Global, words: &[&str]) -> Result<Cal
 }
 
 // The call that some words say.
-pub fn call_of<K: Coordinates + Clone>(heap: Global, words: &[&str]) -> Result<Call<K>, Unsaid> {
+pub fn call_of<K: Coordinates + Clone>(heap: Global, words: &[&str]) -> Result<Call<K>, Unsaid>
+    ensures { IfErr result OffAxisAlone }
+{
     match words {
         ["put", point @ ..] => Ok(Call::Put(point_of(heap, point)?)),
         ["take", point @ ..] => Ok(Call::Take(point_of(heap, point)?)),

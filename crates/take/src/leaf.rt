@@ -1,5 +1,6 @@
 // A point out of a data page.
 ghost use Rattle.std.specs.Prelude.{◌≡◌, ◌<◌, ◌≤◌, List, map, length, MatchResult};
+ghost use Rattle.std.specs.List.{AllByRecursion};
 ghost use Rattle.refusal.specs.Numbers.{number};
 ghost use Rattle.kinds.specs.Kind.{On};
 ghost use Rattle.page.specs.Form.{data_view};
@@ -46,7 +47,7 @@ pub(crate) fn points_at<K: PointKind, S: PageStore>(
     page: u16,
 ) -> Result<Hand<K>, Refusal>
     ensures tells { (ps : List K) → Reads K.PointKind.kind (page_of (S.PageStore.pages store.old) page) (data_view (map K.PointKind.kind.coords ps)) → page < length (S.PageStore.pages store.old) → MatchResult result (λ h. listed h ≡ ps) (λ e. ⊥) }
-    ensures sane { MatchResult result (λ h. (page < length (S.PageStore.pages store.old)) × (1 ≤ length (listed h)) × (length (listed h) ≤ K.PointKind.kind.capacity)) (λ e. number e ≡ 9) }
+    ensures sane { MatchResult result (λ h. (page < length (S.PageStore.pages store.old)) × (1 ≤ length (listed h)) × (length (listed h) ≤ K.PointKind.kind.capacity) × AllByRecursion (On K.PointKind.kind) (listed h)) (λ e. number e ≡ 9) }
     ensures keeps { S.PageStore.pages store.new ≡ S.PageStore.pages store.old }
 {
     let bytes = load(store, usize::from(page))?;

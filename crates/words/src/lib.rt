@@ -32,8 +32,29 @@ pub fn number(word: &str) -> Option<i64>
 pub fn text(heap: Global, bytes: &[u8]) -> Result<String, AllocError>
     ensures { IfOk result (λ t. string_bytes t ≡ trim (utf8_lossy bytes.now)) }
 {
-    let whole = String::from_utf8_lossy(heap, bytes)?;
-    String::from_str(heap, whole.as_str().trim())
+    trimmed(heap, String::from_utf8_lossy(heap, bytes)?)
+}
+
+// A text without the blanks around it. Those behind it are cut off where they stand; it is copied only where there are some before it.
+fn trimmed(heap: Global, mut whole: String) -> Result<String, AllocError>
+    ensures { IfOk result (λ t. string_bytes t ≡ trim (string_bytes whole)) }
+{
+    let front = whole.as_str().trim_start();
+    if front.len() < whole.len() {
+        return String::from_str(heap, front.trim_end());
+    }
+    let end = front.trim_end().len();
+    whole.truncate(end);
+    Ok(whole)
+}
+
+// The text of a line. Its bytes are given back to the heap before a copy is made.
+fn line_text(heap: Global, line: Vec<u8>) -> Result<String, AllocError>
+    ensures { IfOk result (λ t. string_bytes t ≡ trim (utf8_lossy line.items)) }
+{
+    let whole = String::from_utf8_lossy(heap, &line)?;
+    drop(line);
+    trimmed(heap, whole)
 }
 
 // The texts of the lines of an input, from the next one on.
@@ -64,7 +85,7 @@ impl<R: BufRead + Drop> Iterator for Texts<R> {
 
     fn next(&mut self) -> Option<io::Result<String>> {
         match self.pieces.next()? {
-            Ok(bytes) => Some(text(self.heap, &bytes).map_err(io::Error::from)),
+            Ok(line) => Some(line_text(self.heap, line).map_err(io::Error::from)),
             Err(error) => Some(Err(error)),
         }
     }
@@ -104,6 +125,9 @@ mod tests {
         assert_eq!(rt; text(heap, b" \t12  5\r\n")?.as_str(), "12  5");
         assert_eq!(rt; text(heap, b"caf\xe9 3")?.as_str(), "caf\u{FFFD} 3");
         assert_eq!(rt; text(heap, b"\n")?.as_str(), "");
+        assert_eq!(rt; text(heap, b"7 \xe2\x80\x83")?.as_str(), "7");
+        assert_eq!(rt; text(heap, b"\xc3\xa9\r")?.as_str(), "\u{E9}");
+        assert_eq!(rt; text(heap, b"\xe2\x80\x83 \xc3\xa9")?.as_str(), "\u{E9}");
         Ok(())
     }
 

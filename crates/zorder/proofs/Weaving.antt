@@ -7,7 +7,7 @@ use Rattle.std.proofs.lemmas.List.{drop_more, get_or-map, drop_all}
 use Rattle.std.specs.List.{AllByRecursion}
 use Rattle.zorder.proofs.Bitlists.{digits_div}
 use Rattle.zorder.proofs.Order.{Each, done, each, Any, rounds_bin}
-use Rattle.zorder.proofs.Mix.{most, rounds_length}
+use Rattle.zorder.proofs.Mix.{AtMost, most, rounds_length}
 use Rattle.zorder.specs.Code.{digits, turn, turns, rounds, after, total}
 
 pub digits_ge : (m : ℕ) (xs : List ℕ) → m ≤ digits m xs
@@ -92,3 +92,8 @@ pub round_fits : (n r : ℕ) (ks vs : List ℕ) (m : ℕ) → r < n → length k
 round_fits n r ks vs m h same narrow few e =
     let p : 2 ^ total ks ≤ 2 ^ 60 = pow_mono few in
     omega (arith, digits_ge (digits m (turns (after r ks) vs)) (rounds (n - (r + 1)) (after (r + 1) ks) vs), round_more n r ks vs m h, e, woven_lt n ks vs same narrow, p)
+
+-- after as many rounds as the widest axis has bits, no axis has one left
+pub spent : (m r : ℕ) → m ≤ r → (ks : List ℕ) → AllByRecursion (λ k. k ≤ m) ks → AtMost 0 (after r ks)
+spent m r le [] all = tt
+spent m r le (k ∷ ks) all = let h = all.0 in (omega arith, spent m r le ks all.1)

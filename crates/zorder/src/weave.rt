@@ -29,14 +29,28 @@ fn round(code: u64, done: u32, point: &[Raised]) -> u64
     woven
 }
 
-// The code of a point's raised coordinates, axis by axis: 32 rounds of turns.
+// The number of bits of the widest axis.
+fn widest(point: &[Raised]) -> u32
+    ensures all { AllByRecursion (λ k. k ≤ result) (widths_of point.now) }
+    ensures least { (n : ℕ) → AllByRecursion (λ k. k ≤ n) (widths_of point.now) → result ≤ n }
+{
+    let mut most = 0;
+    for raised in point {
+        if raised.width > most {
+            most = raised.width;
+        }
+    }
+    most
+}
+
+// The code of a point's raised coordinates, axis by axis: rounds of turns until the widest axis has no bit left.
 pub fn weave(point: &[Raised]) -> u64
     requires narrow { AllByRecursion (λ k. k ≤ 32) (widths_of point.now) }
     requires few { total (widths_of point.now) ≤ 60 }
     ensures { result ≡ woven (widths_of point.now) (values_of point.now) }
 {
     let mut code = 0;
-    for done in 0..32 {
+    for done in 0..widest(point) {
         code = round(code, done, point);
     }
     code

@@ -1,5 +1,6 @@
 // What is done with the points in the hand.
 ghost use Rattle.std.specs.Prelude.{◌≡◌, ◌+◌, ◌<◌, ◌≤◌, Bool, not, ◌==◌, List, [], ◌∷◌, ◌++◌, map, length, take, drop, filter, IfSome, slice_index_or};
+ghost use Rattle.std.specs.List.{AllByRecursion};
 ghost use Rattle.zorder.specs.Code.{bit_at};
 ghost use Rattle.zorder.specs.Halves.{half as half_of};
 ghost use Rattle.kinds.specs.Kind.{On, wide, code_of, low_corner, high_corner};
@@ -20,7 +21,7 @@ impl<K: PointKind> Hand<K> {
     // The points of a data page; none where the bytes are those of no data page.
     pub fn of_page(bytes: &[u8; 64]) -> Option<Hand<K>>
         ensures tells { (ps : List K) → Reads K.PointKind.kind bytes.now (data_view (map K.PointKind.kind.coords ps)) → HoldsAll ps result }
-        ensures sane { IfSome result (λ h. (1 ≤ length (listed h)) × (length (listed h) ≤ K.PointKind.kind.capacity)) }
+        ensures sane { IfSome result (λ h. (1 ≤ length (listed h)) × (length (listed h) ≤ K.PointKind.kind.capacity) × AllByRecursion (On K.PointKind.kind) (listed h)) }
     {
         let view = DataView::<K>::new(0, bytes).ok()?;
         let first = view.point(0)?;
@@ -34,8 +35,7 @@ impl<K: PointKind> Hand<K> {
     }
 
     // One point.
-    fn one(p: K) -> Hand<K>
-        requires { On K.PointKind.kind p }
+    pub fn one(p: K) -> Hand<K>
         ensures { listed result ≡ p ∷ [] }
     {
         Hand {
@@ -55,6 +55,7 @@ impl<K: PointKind> Hand<K> {
     // A closure for `any` would need two clauses, as `code` asks that its point lies on its axes.
     pub fn holds(&self, p: &K) -> bool
         requires on { On K.PointKind.kind p.now }
+        requires all_on { AllByRecursion (On K.PointKind.kind) (listed self.now) }
         ensures { result ≡ live (code_of K.PointKind.kind) p.now (listed self.now) }
     {
         let sought = p.code();
@@ -69,6 +70,7 @@ impl<K: PointKind> Hand<K> {
     // The points with one more, before the first of a higher code.
     pub fn with(&self, p: &K) -> Hand<K>
         requires on { On K.PointKind.kind p.now }
+        requires all_on { AllByRecursion (On K.PointKind.kind) (listed self.now) }
         requires few { length (listed self.now) ≤ K.PointKind.kind.capacity }
         ensures { listed result ≡ with_point (code_of K.PointKind.kind) p.now (listed self.now) }
     {
@@ -82,6 +84,7 @@ impl<K: PointKind> Hand<K> {
     // The points without one.
     pub fn without(&self, p: &K) -> Hand<K>
         requires on { On K.PointKind.kind p.now }
+        requires all_on { AllByRecursion (On K.PointKind.kind) (listed self.now) }
         ensures { listed result ≡ without_point (code_of K.PointKind.kind) p.now (listed self.now) }
     {
         let gone = p.code();
@@ -94,6 +97,7 @@ impl<K: PointKind> Hand<K> {
 
     // The points whose code has this bit behind the first `depth`.
     pub fn half(&self, depth: u32, bit: u64) -> Hand<K>
+        requires all_on { AllByRecursion (On K.PointKind.kind) (listed self.now) }
         requires shallow { depth < wide K.PointKind.kind }
         ensures { listed result ≡ half_of (code_of K.PointKind.kind) (wide K.PointKind.kind) depth bit (listed self.now) }
     {
@@ -182,9 +186,10 @@ impl<K: PointKind> Hand<K> {
         }
     }
 
-    // The points for which a test holds.
+    // The points for which a test holds, which is asked of points on their axes.
     fn kept<F: Fn(&K) -> bool>(&self, test: F) -> Hand<K>
-        requires { (x : _) → On K.PointKind.kind x.now → F.pre test x }
+        requires all_on { AllByRecursion (On K.PointKind.kind) (listed self.now) }
+        requires callable { (x : _) → On K.PointKind.kind x.now → F.pre test x }
         ensures { (keeps : K → Bool) → ((x : _) (r : Bool) → On K.PointKind.kind x.now → F.post test x r → r ≡ keeps x.now) → listed result ≡ filter keeps (listed self.now) }
     {
         let mut hand = self.first(0);
@@ -209,8 +214,7 @@ impl<K: PointKind> Hand<K> {
 
     // One more point, behind the others.
     fn push(&mut self, p: K)
-        requires on { On K.PointKind.kind p }
-        requires room { length (listed self.old) < 16 }
+        requires { length (listed self.old) < 16 }
         ensures { listed self.new ≡ listed self.old ++ p ∷ [] }
     {
         let place = self.count;
@@ -233,6 +237,7 @@ impl<K: PointKind> Hand<K> {
     // How many points have no higher code than p, from the first on.
     fn place(&self, p: &K) -> usize
         requires on { On K.PointKind.kind p.now }
+        requires all_on { AllByRecursion (On K.PointKind.kind) (listed self.now) }
         ensures within { result ≤ length (listed self.now) }
         ensures splits { with_point (code_of K.PointKind.kind) p.now (listed self.now) ≡ take result (listed self.now) ++ (p.now ∷ drop result (listed self.now)) }
     {

@@ -1,9 +1,9 @@
 use Rattle.std.proofs.Common.{◌≡◌, ◌<◌, ◌≤◌, false, map, length, sym, refl, ap, ◌∙◌, subst, arith}
 use Rattle.std.specs.List.{AllByRecursion}
-use Rattle.kinds.specs.Kind.{code_of}
+use Rattle.kinds.specs.Kind.{On, code_of}
 use Rattle.page.specs.Form.{data_view, encode}
 use Rattle.tree.specs.Sets.{live}
-use Rattle.tree.proofs.Halves.{length_with}
+use Rattle.tree.proofs.Halves.{all_with, length_with}
 use Rattle.std.proofs.lemmas.Result.{err_from_is_err_and}
 use Rattle.refusal.specs.declared.Refusal.TheVariants.{Full}
 use Rattle.access.proofs.Refusing.{given}
@@ -63,6 +63,7 @@ split-requires g c =
     let l = ap length all ∙ length_with (code_of k) p xs in
     let there = subst (λ o. AllByRecursion (λ q. q < length (g.S.PageStore.pages c.args.store.now)) (spares o)) c.in_ok-pages.ensures.ok_part c.requires.spare_there in
     record {
+      on = subst (AllByRecursion (On k)) (sym all) (all_with (code_of k) (On k) p xs c.requires.on c.requires.all_on);
       few = omega (arith, l, most);
       some = omega (arith, l);
       mixed = subst (Mixed k) (sym all) (with_mixed k s p xs (omega (arith, is_full, room)) new);

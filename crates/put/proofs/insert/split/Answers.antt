@@ -14,57 +14,57 @@ depth-depth-requires g c =
     let s = g.met.K.PointKind.sound in
     let h = c.args.points.now in
     record {
-      low_on = low_corner_on k s _ (listed h) c.requires.some h.on c.entry-whole.ensures.low;
-      high_on = high_corner_on k s _ (listed h) c.requires.some h.on c.entry-whole.ensures.high;
+      low_on = low_corner_on k s _ (listed h) c.requires.some c.requires.on c.entry-whole.ensures.low;
+      high_on = high_corner_on k s _ (listed h) c.requires.some c.requires.on c.entry-whole.ensures.high;
     }
 
 pub half-low-requires : goal.half-low-requires
 half-low-requires g c =
     let h = c.args.points.now in
     let e = c.entry-whole.ensures in
-    let d = parts_of g.K.PointKind.kind g.met.K.PointKind.sound _ _ _ (listed h) c.requires.mixed c.requires.few c.requires.some h.on e.low e.high c.depth-depth.ensures.set in
-    record { shallow = d.short }
+    let d = parts_of g.K.PointKind.kind g.met.K.PointKind.sound _ _ _ (listed h) c.requires.mixed c.requires.few c.requires.some c.requires.on e.low e.high c.depth-depth.ensures.set in
+    record { all_on = c.requires.on; shallow = d.short }
 
 pub half-high-requires : goal.half-high-requires
 half-high-requires g c =
     let h = c.args.points.now in
     let e = c.entry-whole.ensures in
-    let d = parts_of g.K.PointKind.kind g.met.K.PointKind.sound _ _ _ (listed h) c.requires.mixed c.requires.few c.requires.some h.on e.low e.high c.depth-depth.ensures.set in
-    record { shallow = d.short }
+    let d = parts_of g.K.PointKind.kind g.met.K.PointKind.sound _ _ _ (listed h) c.requires.mixed c.requires.few c.requires.some c.requires.on e.low e.high c.depth-depth.ensures.set in
+    record { all_on = c.requires.on; shallow = d.short }
 
 pub page-requires : goal.page-requires
 page-requires g c =
     let h = c.args.points.now in
     let e = c.entry-whole.ensures in
-    let d = parts_of g.K.PointKind.kind g.met.K.PointKind.sound _ _ _ (listed h) c.requires.mixed c.requires.few c.requires.some h.on e.low e.high c.depth-depth.ensures.set in
+    let d = parts_of g.K.PointKind.kind g.met.K.PointKind.sound _ _ _ (listed h) c.requires.mixed c.requires.few c.requires.some c.requires.on e.low e.high c.depth-depth.ensures.set in
     subst (λ ys. length ys ≤ g.K.PointKind.kind.capacity) (sym c.half-low.ensures) d.low_few
 
 pub page-requires-2 : goal.page-requires-2
 page-requires-2 g c =
     let h = c.args.points.now in
     let e = c.entry-whole.ensures in
-    let d = parts_of g.K.PointKind.kind g.met.K.PointKind.sound _ _ _ (listed h) c.requires.mixed c.requires.few c.requires.some h.on e.low e.high c.depth-depth.ensures.set in
+    let d = parts_of g.K.PointKind.kind g.met.K.PointKind.sound _ _ _ (listed h) c.requires.mixed c.requires.few c.requires.some c.requires.on e.low e.high c.depth-depth.ensures.set in
     subst (λ ys. length ys ≤ g.K.PointKind.kind.capacity) (sym c.half-high.ensures) d.high_few
 
 pub entry-requires : goal.entry-requires
 entry-requires g c =
     let h = c.args.points.now in
     let e = c.entry-whole.ensures in
-    let d = parts_of g.K.PointKind.kind g.met.K.PointKind.sound _ _ _ (listed h) c.requires.mixed c.requires.few c.requires.some h.on e.low e.high c.depth-depth.ensures.set in
+    let d = parts_of g.K.PointKind.kind g.met.K.PointKind.sound _ _ _ (listed h) c.requires.mixed c.requires.few c.requires.some c.requires.on e.low e.high c.depth-depth.ensures.set in
     subst (λ ys. 1 ≤ length ys) (sym c.half-low.ensures) d.low_some
 
 pub entry-requires-2 : goal.entry-requires-2
 entry-requires-2 g c =
     let h = c.args.points.now in
     let e = c.entry-whole.ensures in
-    let d = parts_of g.K.PointKind.kind g.met.K.PointKind.sound _ _ _ (listed h) c.requires.mixed c.requires.few c.requires.some h.on e.low e.high c.depth-depth.ensures.set in
+    let d = parts_of g.K.PointKind.kind g.met.K.PointKind.sound _ _ _ (listed h) c.requires.mixed c.requires.few c.requires.some c.requires.on e.low e.high c.depth-depth.ensures.set in
     subst (λ ys. 1 ≤ length ys) (sym c.half-high.ensures) d.high_some
 
 pub fork_page-fork-requires : goal.fork_page-fork-requires
 fork_page-fork-requires g c =
     let h = c.args.points.now in
     let e = c.entry-whole.ensures in
-    let d = parts_of g.K.PointKind.kind g.met.K.PointKind.sound _ _ _ (listed h) c.requires.mixed c.requires.few c.requires.some h.on e.low e.high c.depth-depth.ensures.set in
+    let d = parts_of g.K.PointKind.kind g.met.K.PointKind.sound _ _ _ (listed h) c.requires.mixed c.requires.few c.requires.some c.requires.on e.low e.high c.depth-depth.ensures.set in
     d.short
 
 pub returns : goal.returns
@@ -72,7 +72,7 @@ returns g c =
     let k = g.K.PointKind.kind in
     let h = c.args.points.now in
     let e = c.entry-whole.ensures in
-    let d = parts_of k g.met.K.PointKind.sound _ _ _ (listed h) c.requires.mixed c.requires.few c.requires.some h.on e.low e.high c.depth-depth.ensures.set in
+    let d = parts_of k g.met.K.PointKind.sound _ _ _ (listed h) c.requires.mixed c.requires.few c.requires.some c.requires.on e.low e.high c.depth-depth.ensures.set in
     let n = c.depth-depth.result in
     let q = c.args.page in
     let x = c.args.spare in

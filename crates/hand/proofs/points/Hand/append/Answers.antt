@@ -3,8 +3,8 @@ use Rattle.hand.specs.Hands.{listed, left}
 use Rattle.hand.proofs.Steps.{behind}
 use Rattle.hand.proofs.points.Hand.append.Goals as goal
 
-pub push-requires-clause-room : goal.push-requires-clause-room
-push-requires-clause-room g c =
+pub push-requires : goal.push-requires
+push-requires g c =
     let e = ap length c.loop-point.invariant in
     let a = length-append (listed c.loop-point.self) (left c.loop-point.point-iterator) in
     let b = length-append (listed c.args.self.now) (drop c.args.from (listed c.args.other.now)) in

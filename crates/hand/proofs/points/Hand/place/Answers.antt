@@ -1,13 +1,13 @@
 use Rattle.std.proofs.Common.{◌≡◌, ◌+◌, [], ◌∷◌, ◌++◌, take, drop, sym, ap, ◌∙◌, arith}
 use Rattle.std.proofs.lemmas.List.{append_assoc}
-use Rattle.kinds.specs.Kind.{code_of}
+use Rattle.kinds.specs.Kind.{On, code_of}
 use Rattle.tree.specs.Sets.{with_point}
 use Rattle.hand.specs.Hands.{listed}
-use Rattle.hand.proofs.Steps.{count_is, item_on, left_is, front_is, none_left, place_here, place_on}
+use Rattle.hand.proofs.Steps.{count_is, item_has, left_is, front_is, none_left, place_here, place_on}
 use Rattle.hand.proofs.points.Hand.place.Goals as goal
 
 pub code-requires : goal.code-requires
-code-requires g c = item_on c.args.self.now c.loop-i.i c.point-point.result c.loop-i-test.true c.point-point.ensures
+code-requires g c = item_has (On g.K.PointKind.kind) c.args.self.now c.loop-i.i c.point-point.result c.loop-i-test.true c.point-point.ensures c.requires.all_on
 
 pub returns-then-code : goal.returns-then-code
 returns-then-code g c =

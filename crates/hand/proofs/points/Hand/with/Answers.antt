@@ -3,8 +3,8 @@ use Rattle.std.proofs.lemmas.List.{append_assoc, length-take-le}
 use Rattle.hand.specs.Hands.{listed}
 use Rattle.hand.proofs.points.Hand.with.Goals as goal
 
-pub push-requires-clause-room : goal.push-requires-clause-room
-push-requires-clause-room g c =
+pub push-requires : goal.push-requires
+push-requires g c =
     let ps = listed c.args.self.now in
     let b = ap length c.first-hand.ensures ∙ length-take-le c.place-place.result ps c.place-place.ensures.within in
     let m = g.met.K.PointKind.sound.small in

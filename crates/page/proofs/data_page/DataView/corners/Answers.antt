@@ -9,37 +9,35 @@ use Rattle.page.proofs.data_page.DataView.corners.Goals as goal
 pub returns-then-count-CAPACITY : goal.returns-then-count-CAPACITY
 returns-then-count-CAPACITY g c ps r = let q = c.count-count.ensures ps r in let m = r.fields.fit in absurd (omega (arith, q, m, c.if-count-CAPACITY.true, c.CAPACITY.ensures, g.met.K.PointKind.constants.1))
 
-pub chunks_exact-requires : goal.chunks_exact-requires
-chunks_exact-requires g c = omega (arith, c.SIZE.ensures, g.met.K.PointKind.constants.2, some_size g.K.PointKind.kind g.met.K.PointKind.sound)
+pub chunks_exact-parts-requires : goal.chunks_exact-parts-requires
+chunks_exact-parts-requires g c = omega (arith, c.SIZE.ensures, g.met.K.PointKind.constants.2, some_size g.K.PointKind.kind g.met.K.PointKind.sound)
 
 pub next-requires : goal.next-requires
 next-requires g c =
-    let wide = ap (λ t. t.size) c.take-parts.ensures.source ∙ c.chunks_exact.ensures.size ∙ c.SIZE.ensures ∙ g.met.K.PointKind.constants.2 in
+    let wide = c.chunks_exact-parts.ensures.size ∙ c.SIZE.ensures ∙ g.met.K.PointKind.constants.2 in
     omega (arith, wide, some_size g.K.PointKind.kind g.met.K.PointKind.sound)
 
 pub returns-in_err-next : goal.returns-in_err-next
 returns-in_err-next g c ps r =
     let k = g.K.PointKind.kind in
     let laws = g.met.K.PointKind.sound in
-    let source = c.take-parts.ensures.source in
-    let wide = ap (λ t. t.size) source ∙ c.chunks_exact.ensures.size ∙ c.SIZE.ensures ∙ g.met.K.PointKind.constants.2 in
-    let at = ap (λ t. t.rest.now) source ∙ c.chunks_exact.ensures.rest ∙ all_left k laws _ ps r in
-    let past = all_came k laws _ ps r 0 c.take-parts.result.n c.take-parts.result.iter.size _ at (omega (arith, c.take-parts.ensures.count, c.count-count.ensures ps r)) wide (λ h. (c.in_err-next.ensures.steps h).1.0) in
+    let wide = c.chunks_exact-parts.ensures.size ∙ c.SIZE.ensures ∙ g.met.K.PointKind.constants.2 in
+    let at = c.chunks_exact-parts.ensures.rest ∙ all_left k laws _ ps r in
+    let past = all_came k laws _ ps r 0 (length ps) c.chunks_exact-parts.result.size _ at (omega arith) wide (λ h. c.in_err-next.ensures.steps.1.0) in
     absurd (omega (arith, past, r.fields.some))
 
 pub read-requires : goal.read-requires
-read-requires g c = c.in_ok-next.ensures.steps.0.1.1 ∙ ap (λ t. t.size) c.take-parts.ensures.source ∙ c.chunks_exact.ensures.size ∙ c.SIZE.ensures ∙ g.met.K.PointKind.constants.2
+read-requires g c = c.in_ok-next.ensures.steps.1.1 ∙ c.chunks_exact-parts.ensures.size ∙ c.SIZE.ensures ∙ g.met.K.PointKind.constants.2
 
 pub returns-in_err-first : goal.returns-in_err-first
 returns-in_err-first g c ps r =
     let k = g.K.PointKind.kind in
     let laws = g.met.K.PointKind.sound in
     let bs = c.args.self.now.bytes.now in
-    let source = c.take-parts.ensures.source in
     let w = c.in_ok-next.ensures.steps in
-    let wide = ap (λ t. t.size) source ∙ c.chunks_exact.ensures.size ∙ c.SIZE.ensures ∙ g.met.K.PointKind.constants.2 in
-    let at = ap (λ t. t.rest.now) source ∙ c.chunks_exact.ensures.rest ∙ all_left k laws _ ps r in
-    let x = part_is (drop 2 bs) 0 (size_of k) _ _ _ at w.0.1.0 (w.0.1.1 ∙ wide) in
+    let wide = c.chunks_exact-parts.ensures.size ∙ c.SIZE.ensures ∙ g.met.K.PointKind.constants.2 in
+    let at = c.chunks_exact-parts.ensures.rest ∙ all_left k laws _ ps r in
+    let x = part_is (drop 2 bs) 0 (size_of k) _ _ _ at w.1.0 (w.1.1 ∙ wide) in
     let s = some_read k bs ps 0 _ r r.fields.some x.0 in
     absurd (subst (PointRead k c.in_ok-next.field-0.now) c.in_err-first.was (point_read k laws _ _ c.read.result refl c.read.ensures.back c.read.ensures.only) (get_or ps 0 []) s.0 s.1)
 
@@ -48,23 +46,23 @@ loop-part-init g c =
     let k = g.K.PointKind.kind in
     let laws = g.met.K.PointKind.sound in
     let bs = c.args.self.now.bytes.now in
-    let source = c.take-parts.ensures.source in
     let w = c.in_ok-next.ensures.steps in
     let same = c.into_iter-part-iterator.ensures.into_iter_gives in
-    let wide = ap (λ t. t.size) source ∙ c.chunks_exact.ensures.size ∙ c.SIZE.ensures ∙ g.met.K.PointKind.constants.2 in
-    let still = ap (λ t. t.iter.size) same ∙ w.0.0 ∙ wide in (
+    let source = c.take-part-items.ensures.source in
+    let wide = c.chunks_exact-parts.ensures.size ∙ c.SIZE.ensures ∙ g.met.K.PointKind.constants.2 in
+    let still = ap (λ t. t.iter.size) same ∙ ap (λ t. t.size) source ∙ w.0 ∙ wide in (
       omega (arith, still, some_size k laws),
       tt,
       still,
       λ ps r.
-          let at = ap (λ t. t.rest.now) source ∙ c.chunks_exact.ensures.rest ∙ all_left k laws _ ps r in
-          let x = part_is (drop 2 bs) 0 (size_of k) _ _ _ at w.0.1.0 (w.0.1.1 ∙ wide) in
+          let at = c.chunks_exact-parts.ensures.rest ∙ all_left k laws _ ps r in
+          let x = part_is (drop 2 bs) 0 (size_of k) _ _ _ at w.1.0 (w.1.1 ∙ wide) in
           let o = c.in_ok-first.ensures.only in
           let p = k.coords c.in_ok-first.first in
           let some = r.fields.some in (
             1,
-            omega (arith, ap (λ t. t.n) same, w.1, c.take-parts.ensures.count, c.count-count.ensures ps r),
-            ap (λ t. t.iter.rest.now) same ∙ x.1,
+            omega (arith, ap (λ t. t.n) same, c.take-part-items.ensures.count, c.saturating_sub.ensures, c.count-count.ensures ps r),
+            ap (λ t. t.iter.rest.now) same ∙ ap (λ t. t.rest.now) source ∙ x.1,
             scan_one k ps p c.code-last.result some (read_is k laws bs ps 0 p _ r some o.0 o.1 x.0) c.code-last.ensures,
           ),
     )

@@ -14,5 +14,6 @@ returns g c =
     let part = c.over.ensures ∙ ap (λ n. take n (drop (2 + z) bs)) long ∙ ap (λ n. take n (drop (2 + n) bs)) e in
     record {
       part = part;
+      whole = c.over.result.long;
       view = λ n l h r. part ∙ ap (take (entry_length k)) (drop_plus 2 (entry_length k) bs) ∙ sym (high_is k bs (entry_length k) refl (record { depth = n; low_entry = l; high_entry = h; reads = r }));
     }

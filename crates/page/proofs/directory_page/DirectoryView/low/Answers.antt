@@ -12,5 +12,6 @@ returns g c =
     let part = c.over.ensures ∙ cut_low bs z ∙ ap (λ n. take n (drop 2 bs)) e in
     record {
       part = part;
+      whole = c.over.result.long;
       view = λ n l h r. part ∙ sym (low_is k bs (entry_length k) refl (record { depth = n; low_entry = l; high_entry = h; reads = r }));
     }

@@ -11,7 +11,7 @@ returns-then-zeros g c =
     let e = c.entry_size-end.ensures in
     let cut = cut_root bs z ∙ ap (λ n. take n (drop 5 bs)) e in
     let part = subst AllZero cut c.if-zeros.ensures in
-    record { part = part; view = root_agrees k bs _ _ part }
+    record { part = part; whole = tt; view = root_agrees k bs _ _ part }
 
 pub returns : goal.returns
 returns g c =
@@ -22,4 +22,4 @@ returns g c =
     let cut = cut_root bs z ∙ ap (λ n. take n (drop 5 bs)) e in
     let same = c.over.ensures ∙ cut in
     let some = subst (λ x. AllZero x → ⊥) cut c.if-zeros.ensures in
-    record { part = (same, some); view = root_agrees k bs _ _ (same, some) }
+    record { part = (same, some); whole = c.over.result.long; view = root_agrees k bs _ _ (same, some) }
